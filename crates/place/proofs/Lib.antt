@@ -1,0 +1,4 @@
+pub mod CodeLaws
+pub mod BoxLaws
+pub mod SmallestLaws
+pub mod SideLaws

@@ -1,0 +1,3 @@
+pub mod Codes
+pub mod Boxes
+pub mod Values
