@@ -1,15 +1,15 @@
 -- Laws of boxes.
 use mathlib.Core.Path.{_≡_, refl, sym, ap, subst, _∙_}
 use mathlib.Core.Logic.{_⊎_, inl, inr}
-use mathlib.Core.Bool.{Bool, true, false, cond, _&&_}
-use Prim.Native.Nat.{ℕ, zero, suc, _+_, _-_, _*_, _/_, _^_, _<_, _≤_, min}
+use mathlib.Core.Bool.{Bool, true, false}
+use Prim.Native.Nat.{ℕ, zero, suc, _+_, _-_, _/_, _^_, _<_, _≤_, min}
 use native.Mathlib.Omega.{arith}
 use lib.Dec.{eqb, leb}
 use Rattle.std.proofs.shelf.Bits.{shr-shr, shl-shr}
 use Rattle.std.proofs.shelf.Ways.{tells}
 use Rattle.std.proofs.shelf.Tests.{eqb-true, eq-eqb, ne-eqb, leb-true, le-leb, and-parts, and-from, both-ways, cases-eq, cases-lt}
 use native.Mathlib.Nat.{div-eq-of-lt, div-one}
-use Rattle.place.specs.Boxes.{prefix, Box, cut, whole, point, holds, within, agree, smallest, half}
+use Rattle.place.specs.Boxes.{prefix, Box, cut, point, holds, within, agree, smallest, half}
 
 prefix-up : (j k c : ℕ) → j ≤ k → prefix j c ≡ prefix k c / 2 ^ ((32 - j) - (32 - k))
 unfolding prefix

@@ -1,19 +1,19 @@
 -- A box is a rectangle: its prefix bounds each count by a side, and a box value's code is its lowest corner.
-use mathlib.Core.Path.{_≡_, refl, sym, _∙_, ap, subst}
+use mathlib.Core.Path.{_≡_, sym, _∙_, ap, subst}
 use mathlib.Core.Logic.{_↔_}
-use mathlib.Core.Bool.{Bool, true, _&&_}
+use mathlib.Core.Bool.{true, _&&_}
 use Prim.Native.Nat.{ℕ, zero, suc, _+_, _-_, _*_, _/_, _%_, _^_, _<_, _≤_}
 use native.Mathlib.Omega.{arith}
 use native.Mathlib.Nat.{div-add-mod', mod-lt, div-lt-iff-lt-mul, mul-le-mul-right, sub-add-cancel}
 use lib.Arith.{digits-div}
-use lib.Dec.{eqb, leb}
+use lib.Dec.{leb}
 use lib.Pow.{pow-pos, pow-add}
 use Rattle.std.specs.Orderings.{Decides}
-use Rattle.std.proofs.shelf.Bits.{mod-pow-add, shr-split}
+use Rattle.std.proofs.shelf.Bits.{mod-pow-add}
 use Rattle.std.proofs.shelf.Tests.{and-parts, and-from, leb-true, le-leb}
 use Rattle.std.proofs.shelf.Ways.{same-from-decides}
 use Rattle.place.specs.Codes.{codeOf, motorOf, rootOf, oddBits, evenBits, Interleaved}
-use Rattle.place.specs.Boxes.{prefix, Box, holds, inBox, motorSide, rootSide}
+use Rattle.place.specs.Boxes.{prefix, Box, holds, inBox, motorSide, rootSide, between}
 use Rattle.place.proofs.CodeLaws.{shared, shares, odd-bit, even-bit, again, odd-lt, even-lt, interleave-lt, odd-interleave, even-interleave, half-up}
 use Rattle.place.proofs.BoxLaws.{holds-true, true-holds}
 
@@ -147,6 +147,20 @@ even-clear (suc n) (suc (suc j)) c h =
 begins : (m a : ℕ) → m % a ≡ 0 → m / a * a ≡ m
 begins m a h = omega (arith, div-add-mod' m a)
 
+-- a place between four ends
+pub between-parts : (lm hm lr hr m r : ℕ) → between lm hm lr hr m r ≡ true → (lm ≤ m) × (m ≤ hm) × (lr ≤ r) × (r ≤ hr)
+between-parts lm hm lr hr m r e =
+    let p = and-parts (leb lm m && leb m hm) (leb lr r && leb r hr) e in
+    let u = and-parts (leb lm m) (leb m hm) (p .0) in
+    let v = and-parts (leb lr r) (leb r hr) (p .1) in
+    (leb-true lm m (u .0), leb-true m hm (u .1), leb-true lr r (v .0), leb-true r hr (v .1))
+
+pub parts-between : (lm hm lr hr m r : ℕ) → (lm ≤ m) × (m ≤ hm) × (lr ≤ r) × (r ≤ hr) → between lm hm lr hr m r ≡ true
+parts-between lm hm lr hr m r b =
+    and-from (leb lm m && leb m hm) (leb lr r && leb r hr)
+    (and-from (leb lm m) (leb m hm) (le-leb lm m (b .0)) (le-leb m hm (b .1)))
+    (and-from (leb lr r) (leb r hr) (le-leb lr r (b .2)) (le-leb r hr (b .3)))
+
 -- A box value of depth k and code c.
 module _ (k c : ℕ) (deep : k ≤ 32) (fits : c < 2 ^ 32) (clear : c % 2 ^ (32 - k) ≡ 0) where
   abbrev m₀ : ℕ
@@ -205,19 +219,12 @@ module _ (k c : ℕ) (deep : k ≤ 32) (fits : c < 2 ^ 32) (clear : c % 2 ^ (32 
 
   -- the places of the box as a test of the four ends
   pub box-places : (lm hm lr hr m r : ℕ) → lm ≡ m₀ → hm + 1 ≡ m₀ + motorSide k → lr ≡ r₀ → hr + 1 ≡ r₀ + rootSide k → m < 2 ^ 16 → r < 2 ^ 16
-      → ((leb lm m && leb m hm) && (leb lr r && leb r hr)) ≡ inBox box m r
+      → between lm hm lr hr m r ≡ inBox box m r
   unfolding inBox
   box-places lm hm lr hr m r dm em dr er bm br = same-from-decides _ _ ends (inside m r bm br)
     where
-      ends : Decides ((leb lm m && leb m hm) && (leb lr r && leb r hr)) ((m₀ ≤ m) × (m < m₀ + motorSide k) × (r₀ ≤ r) × (r < r₀ + rootSide k))
+      ends : Decides (between lm hm lr hr m r) ((m₀ ≤ m) × (m < m₀ + motorSide k) × (r₀ ≤ r) × (r < r₀ + rootSide k))
       ends = (
-        (λ e.
-            let p = and-parts (leb lm m && leb m hm) (leb lr r && leb r hr) e in
-            let u = and-parts (leb lm m) (leb m hm) (p .0) in
-            let v = and-parts (leb lr r) (leb r hr) (p .1) in
-            omega (arith, leb-true lm m (u .0), leb-true m hm (u .1), leb-true lr r (v .0), leb-true r hr (v .1))),
-        (λ b.
-            and-from _ _
-            (and-from _ _ (le-leb _ _ (let q : lm ≤ m = omega arith in q)) (le-leb _ _ (let q : m ≤ hm = omega arith in q)))
-            (and-from _ _ (le-leb _ _ (let q : lr ≤ r = omega arith in q)) (le-leb _ _ (let q : r ≤ hr = omega arith in q)))),
+        (λ e. let p = between-parts lm hm lr hr m r e in omega arith),
+        (λ b. parts-between lm hm lr hr m r (omega arith)),
       )

@@ -1,17 +1,17 @@
 -- The smallest box by the leading zeros of an exclusive or, and the halves of a box.
 use mathlib.Core.Path.{_≡_, refl, sym, ap, subst, subst₃, _∙_}
 use mathlib.Core.Logic.{_⊎_, inl, inr}
-use mathlib.Core.Bool.{Bool, true, false}
-use Prim.Native.Nat.{ℕ, zero, suc, _+_, _-_, _*_, _/_, _^_, _<_, _≤_, min}
+use mathlib.Core.Bool.{true}
+use Prim.Native.Nat.{ℕ, suc, _+_, _-_, _*_, _/_, _^_, _<_, _≤_, min}
 use native.Mathlib.Nat.{div-eq-of-lt, pow-succ'}
 use native.Mathlib.Omega.{arith}
 use lib.Dec.{eqb}
 use lib.Bits.{bitXor, xor-self, xor-assoc, xor-zero-l, xor-zero-r, xor-lt, xor-shr}
 use lib.Count.{leadingZeros, leading-top}
 use Rattle.std.proofs.shelf.Bits.{pow-pos, le-div, shl-shr}
-use Rattle.std.proofs.shelf.Tests.{cases-eq, cases-lt, eq-eqb, ne-eqb, eqb-true, eqb-false, cases-bool}
+use Rattle.std.proofs.shelf.Tests.{cases-eq, cases-lt, eq-eqb, ne-eqb}
 use Rattle.place.specs.Boxes.{prefix, Box, cut, point, holds, agree, smallest, Deepest, half, lower, upper}
-use Rattle.place.proofs.BoxLaws.{Parting, Parts, Separate, parts, parting-only, smallest-is, prefix-mono, prefix-cut, prefix-step, cut-eq, Lies, halves, holds-true, agree-le, agree-same, agree-most, smallest-left, smallest-right, smallest-least, prefix-root}
+use Rattle.place.proofs.BoxLaws.{Parting, Separate, parts, parting-only, prefix-mono, prefix-cut, prefix-step, cut-eq, Lies, halves, holds-true, agree-le, agree-same, agree-most, smallest-left, smallest-right, smallest-least, prefix-root}
 
 pub xor-eq : (a b : ℕ) → bitXor a b ≡ 0 → a ≡ b
 xor-eq a b e = sym (xor-zero-r a) ∙ ap (bitXor a) (sym e) ∙ sym (xor-assoc a a b) ∙ ap (λ n. bitXor n b) (xor-self a) ∙ xor-zero-l b

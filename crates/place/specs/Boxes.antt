@@ -5,6 +5,7 @@
 --   smallest, Deepest             the deepest box that contains both of two boxes
 --   half, lower, upper            the halves of a box
 --   motorSide, rootSide           how many counts a box spans
+--   between                       the places of a rectangle, by its four ends
 --   Formed                        a box as it is written: zeros below its depth
 use mathlib.Core.Path.{_≡_}
 use mathlib.Core.Bool.{Bool, true, cond, _&&_}
@@ -79,6 +80,10 @@ motorSide k = 2 ^ (16 - (k + 1) / 2)
 -- How many root counts a box of depth k spans.
 abbrev pub rootSide : ℕ → ℕ
 rootSide k = 2 ^ (16 - k / 2)
+
+-- Whether a place lies between a lowest and a highest motor count and between a lowest and a highest root count.
+abbrev pub between : ℕ → ℕ → ℕ → ℕ → ℕ → ℕ → Bool
+between lm hm lr hr m r = (leb lm m && leb m hm) && (leb lr r && leb r hr)
 
 -- A box as it is written: at most 32 deep, a code of 32 bits, zeros below the depth.
 pub record Formed (B : Box) : Type 0 where

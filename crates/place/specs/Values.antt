@@ -5,12 +5,11 @@
 --   Made          the answer where a rectangle is asked for by its four ends
 --   Covers        a rectangle whose places are exactly those of a box
 use mathlib.Core.Path.{_≡_}
-use mathlib.Core.Bool.{Bool, true, _&&_}
+use mathlib.Core.Bool.{Bool, true}
 use Prim.Native.Nat.{ℕ, _+_, _^_, _<_, _≤_}
-use lib.Dec.{leb}
 use Rattle.std.specs.declared.option.Option.{Option}
 use Rattle.std.specs.declared.option.Option.the-variants.{Some, None}
-use Rattle.place.specs.Boxes.{Box, holds, inBox, within, half, point, motorSide, rootSide}
+use Rattle.place.specs.Boxes.{Box, holds, inBox, within, half, point, motorSide, rootSide, between}
 use Rattle.place.specs.declared.place_box.PlaceBox.{PlaceBox}
 use Rattle.place.specs.declared.rectangle.Rectangle.{Rectangle}
 
@@ -18,9 +17,9 @@ use Rattle.place.specs.declared.rectangle.Rectangle.{Rectangle}
 abbrev pub boxOf : PlaceBox → Box
 boxOf b = record { depth = b .depth; code = b .code }
 
--- Whether a place is in the rectangle: each of its counts lies between the two ends.
+-- The places of a rectangle value.
 abbrev pub inRectangle : Rectangle → ℕ → ℕ → Bool
-inRectangle t m r = (leb (t .«lowest_motor») m && leb m (t .«highest_motor»)) && (leb (t .«lowest_root») r && leb r (t .«highest_root»))
+inRectangle t = between (t .«lowest_motor») (t .«highest_motor») (t .«lowest_root») (t .«highest_root»)
 
 -- The half of b with the code c, or none where b is one code or does not hold c.
 abbrev pub Halved : PlaceBox → ℕ → Option PlaceBox → Type 0

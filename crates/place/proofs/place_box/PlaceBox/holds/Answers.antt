@@ -1,5 +1,4 @@
 use mathlib.Core.Path.{sym}
-use Prim.Native.Nat.{_^_}
 use native.Mathlib.Omega.{arith}
 use Rattle.std.proofs.shelf.Bits.{xor-lt}
 use Rattle.place.specs.Values.{boxOf}

@@ -1,5 +1,5 @@
 use mathlib.Core.Path.{_≡_, _∙_, ap, subst⁻¹}
-use Prim.Native.Nat.{ℕ, _-_, _*_, _/_, _%_, _^_, _<_, _≤_, min}
+use Prim.Native.Nat.{ℕ, _-_, _*_, _/_, _%_, _^_, _<_}
 use native.Mathlib.Nat.{mul-mod-left}
 use native.Mathlib.Omega.{arith}
 use Rattle.std.proofs.shelf.Bits.{shl-whole, shr-le, shr-split}

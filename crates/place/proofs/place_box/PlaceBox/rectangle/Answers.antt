@@ -1,5 +1,5 @@
 use mathlib.Core.Path.{_≡_}
-use Prim.Native.Nat.{ℕ, _+_, _-_, _<_, _^_}
+use Prim.Native.Nat.{_+_, _-_, _<_, _^_}
 use native.Mathlib.Omega.{arith}
 use Rattle.place.specs.Codes.{motorOf, rootOf}
 use Rattle.place.specs.Boxes.{motorSide, rootSide}

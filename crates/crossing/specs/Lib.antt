@@ -1,0 +1,4 @@
+pub mod Counting
+pub mod Regions
+pub mod Discs
+pub mod Laws

@@ -1,0 +1,2 @@
+pub mod DiscTests
+pub mod BandTests
