@@ -3,7 +3,6 @@ ghost use mathlib.Core.Path.{_≡_};
 ghost use mathlib.Core.Bool.{_&&_};
 ghost use lib.Dec.{leb};
 ghost use Rattle.shape.specs.Shapes.{bandInner, bandOuter, BandMade};
-
 use crate::band::Band;
 use crate::fault::ShapeFault;
 use crate::shapes::Shape;
@@ -60,6 +59,7 @@ impl Band {
 
 pub impl Shape for Band as BandShape {
     ghost inner = { bandInner };
+
     ghost outer = { bandOuter };
 
     fn misses(&self, region: Rectangle) -> bool {

@@ -1,6 +1,5 @@
 //! The disc value, apart from its calls, since its invariant may cite no definition that names it.
 ghost use Prim.Native.Nat.{_≤_};
-
 use place::Place;
 
 /// A centre and two radii, the inner at most the outer and that at most 100000.

@@ -4,7 +4,6 @@ ghost use Prim.Native.Nat.{_+_, _*_, _≤_};
 ghost use Rattle.crossing.specs.Regions.{crossings};
 ghost use Rattle.crossing.specs.Discs.{gapTo, reachTo, added, crossingSum};
 ghost use Rattle.shape.specs.Shapes.{discInner, discOuter, DiscMade};
-
 use crate::disc::Disc;
 use crate::fault::ShapeFault;
 use crate::shapes::Shape;
@@ -20,13 +19,8 @@ fn gap(count: u16, lowest: u16, highest: u16) -> u32
     ensures value { λ r. ⌜ r ≡ gapTo count lowest highest ⌝ }
     ensures small { λ r. ⌜ r ≤ 65535 ⌝ }
 {
-    if count < lowest {
-        return (lowest - count) as u32;
-    }
-    if highest < count {
-        return (count - highest) as u32;
-    }
-    0
+    let nearest = count.clamp(lowest, highest);
+    count.abs_diff(nearest) as u32
 }
 
 /// How far a count is from the farthest count from `lowest` to `highest`.
@@ -110,6 +104,7 @@ impl Disc {
 
 pub impl Shape for Disc as DiscShape {
     ghost inner = { discInner };
+
     ghost outer = { discOuter };
 
     fn misses(&self, region: Rectangle) -> bool {

@@ -1,7 +1,6 @@
 //! The numbers of the refusals.
 ghost use mathlib.Core.Path.{_≡_};
 ghost use Rattle.shape.specs.Faults.{faultNumber};
-
 use crate::fault::ShapeFault;
 
 impl ShapeFault {

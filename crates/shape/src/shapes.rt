@@ -4,7 +4,6 @@ ghost use mathlib.Core.Bool.{Bool, true};
 ghost use Prim.Native.Nat.{ℕ, _^_, _<_};
 ghost use Rattle.place.specs.Values.{inRectangle};
 ghost use Rattle.crossing.specs.Regions.{misses as missesPlaces, held as holdsPlaces};
-
 use place::Place;
 use place::Rectangle;
 
@@ -12,7 +11,9 @@ use place::Rectangle;
 /// Each test is exact, changes nothing and never refuses.
 pub trait Shape {
     ghost inner: { Self → ℕ → ℕ → Bool };
+
     ghost outer: { Self → ℕ → ℕ → Bool };
+
     law nested: { (s : Self) (m r : ℕ) → m < 2 ^ 16 → r < 2 ^ 16 → inner s m r ≡ true → outer s m r ≡ true };
 
     /// Whether no place of a rectangle is in the inner set.
