@@ -1,9 +1,9 @@
 -- The tests of a disc, and that its inner set is part of its outer set.
-use mathlib.Core.Path.{_≡_, sym, _∙_, ap₂}
+use mathlib.Core.Path.{_≡_, ap₂}
 use mathlib.Core.Bool.{true}
 use Prim.Native.Nat.{ℕ, _+_, _*_, _≤_}
 use native.Mathlib.Nat.{mul-le-mul, le-trans}
-use lib.Dec.{leb, ltb}
+use lib.Dec.{leb}
 use Rattle.std.proofs.shelf.Tests.{leb-true, le-leb}
 use Rattle.crossing.specs.Discs.{within, apart, gapTo}
 

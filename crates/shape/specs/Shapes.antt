@@ -2,7 +2,7 @@
 --   discInner, discOuter, DiscMade   a disc
 --   bandInner, bandOuter, BandMade   a band
 use mathlib.Core.Path.{_≡_}
-use Prim.Native.Nat.{ℕ, _+_, _-_, _≤_, min}
+use Prim.Native.Nat.{ℕ, _+_, _-_, min}
 use Rattle.std.specs.declared.result.Result.{Result}
 use Rattle.std.specs.declared.result.Result.the-variants.{Ok, Err}
 use Rattle.place.specs.Boxes.{between}

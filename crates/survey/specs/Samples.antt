@@ -3,8 +3,8 @@
 --   Surveyed          a sample completed, with its place, code, lag and delay, or refused
 use mathlib.Core.Path.{_≡_}
 use mathlib.Core.List.{List}
-use Prim.Native.Nat.{ℕ, _+_, _^_, _<_, _≤_}
-use lib.IntN.{ℤ, pos, _-ℤ_}
+use Prim.Native.Nat.{ℕ, _+_, _^_, _<_}
+use lib.IntN.{pos, _-ℤ_}
 use Rattle.std.specs.Reads.{Numeral, value, afterPlus}
 use Rattle.std.specs.declared.option.Option.{Option}
 use Rattle.std.specs.declared.option.Option.the-variants.{Some, None}

@@ -1,5 +1,4 @@
 use native.Mathlib.Omega.{arith}
-use lib.ListN.{getD}
 use Rattle.place.specs.Values.{boxOf}
 use Rattle.survey.proofs.EnclosingLaws.{grows-first, grows-more}
 use Rattle.survey.proofs.enclosing.enclosing.Needs as need
