@@ -1,4 +1,4 @@
-// The plain numbers of a whole reading, for whoever stores or prints them.
+//! The plain numbers of a whole reading, for whoever stores or prints them.
 #[derive(Clone, Copy, PartialEq, Eq, Debug)]
 pub struct Counts {
     pub motor: u16,

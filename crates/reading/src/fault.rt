@@ -1,7 +1,7 @@
 ghost use mathlib.Core.Path.{_≡_};
 ghost use Rattle.reading.specs.Faults.{number};
 
-// Why a half reading was not completed.
+/// Why a half reading was not completed.
 #[derive(Clone, Copy, PartialEq, Eq, Debug)]
 pub enum ReadingFault {
     Early,
@@ -9,7 +9,7 @@ pub enum ReadingFault {
 }
 
 impl ReadingFault {
-    // The number under which the fault is reported.
+    /// The number under which the fault is reported.
     pub fn number(self) -> u8
         ensures value { λ r. ⌜ r ≡ number self ⌝ }
     {

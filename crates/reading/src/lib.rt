@@ -1,4 +1,4 @@
-// Readings are taken in two halves, the motor first and then the root, so that neither is kept without the other.
+//! Readings are taken in two halves, the motor first and then the root, so that neither is kept without the other.
 mod counts;
 mod fault;
 mod whole;

@@ -5,7 +5,7 @@ use crate::HalfReading;
 use crate::ReadingFault;
 use std::test::*;
 
-// The delay of a reading that is to be accepted.
+/// The delay of a reading that is to be accepted.
 fn accepted(from: u32, to: u32) -> Result<u32, Fail> {
     match HalfReading::take(7, from).complete(9, to) {
         Ok(whole) => {
@@ -21,7 +21,7 @@ fn accepted(from: u32, to: u32) -> Result<u32, Fail> {
     }
 }
 
-// The number of the fault of a reading that is to be refused, with the half reading that came back.
+/// The number of the fault of a reading that is to be refused, with the half reading that came back.
 fn refused(from: u32, to: u32) -> Result<(u8, (u16, u32)), Fail> {
     match HalfReading::take(7, from).complete(9, to) {
         Ok(whole) => {

@@ -4,8 +4,8 @@ ghost use Rattle.reading.specs.Limit.{longest};
 mod calls;
 pub mod half;
 
-// Neither copied nor let go, so that each reading is used exactly once.
-// The fields are private and only `HalfReading::complete` fills them.
+/// Neither copied nor let go, so that each reading is used exactly once.
+/// The fields are private and only `HalfReading::complete` fills them.
 pub struct WholeReading {
     motor: u16,
     root: u16,

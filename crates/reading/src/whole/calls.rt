@@ -30,7 +30,7 @@ impl WholeReading {
         self.root_time
     }
 
-    // How many milliseconds after the motor the root was read.
+    /// How many milliseconds after the motor the root was read.
     pub fn delay(&self) -> u32
         ensures value { λ r. ⌜ now (self .entry) .«motor_time» + r ≡ now (self .entry) .«root_time» ⌝ }
         ensures bounded { λ r. ⌜ r ≤ longest ⌝ }
@@ -38,7 +38,7 @@ impl WholeReading {
         self.root_time - self.motor_time
     }
 
-    // Uses the reading up and answers its numbers.
+    /// Uses the reading up and answers its numbers.
     pub fn spend(self) -> Counts
         ensures value { λ r. ⌜ r ≡ numbersOf self ⌝ }
     {
