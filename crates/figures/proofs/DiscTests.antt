@@ -1,13 +1,12 @@
 -- The tests of a disc by its nearest and its farthest place, which compute, and that they are the defined ones.
 use mathlib.Core.Path.{_≡_, refl, sym, _∙_, ap, subst}
 use mathlib.Core.List.{List}
-use Prim.Native.Nat.{ℕ, _+_, _-_, _*_, _%_, _^_, _<_, _≤_}
+use Prim.Native.Nat.{ℕ, _+_, _-_, _*_, _%_, _^_, _<_}
 use native.Mathlib.Nat.{mul-mod-left}
 use native.Mathlib.Omega.{arith}
 use lib.Dec.{leb, ltb}
-use lib.Pow.{pow-pos}
 use Rattle.place.specs.Codes.{motorOf, rootOf}
-use Rattle.place.specs.Boxes.{prefix, Box, cut, inBox, motorSide, rootSide, between, Formed}
+use Rattle.place.specs.Boxes.{prefix, Box, inBox, motorSide, rootSide, between, Formed}
 use Rattle.place.proofs.SideLaws.{motor-end, root-end, box-places}
 use Rattle.tally.specs.Sums.{zeroSum, sumJoined}
 use Rattle.tally.specs.declared.sum.Sum.{Sum}
@@ -17,7 +16,7 @@ use Rattle.crossing.proofs.RegionLaws.{misses-same, held-same}
 use Rattle.crossing.proofs.DiscLaws.{disc-misses, disc-holds}
 use Rattle.quadtreap.specs.Tree.{Reading, treeOf}
 use Rattle.quadtreap.specs.Rank.{Valid, inRankOrder}
-use Rattle.quadtreap.specs.Walk.{Tests, Agree, Answer, asked, mapWalk}
+use Rattle.quadtreap.specs.Walk.{Tests, Agree, asked, mapWalk}
 use Rattle.quadtreap.proofs.WalkLaws.{same-tests}
 use Rattle.figures.specs.Figures.{discWalk}
 

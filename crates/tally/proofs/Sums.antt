@@ -1,6 +1,6 @@
 -- Sums are equal where their numbers are, and so obey the laws of addition.
 use mathlib.Core.Path.{_≡_, ap, subst}
-use Prim.Native.Nat.{ℕ, _+_, _%_, _^_, _<_}
+use Prim.Native.Nat.{ℕ, _^_, _<_}
 use native.Mathlib.Bridge.{le-prop}
 use native.Mathlib.Omega.{arith}
 use Rattle.tally.specs.declared.sum.Sum.{Sum}
