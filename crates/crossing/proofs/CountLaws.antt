@@ -36,7 +36,8 @@ some-any (suc n) p i l e = go (some-any n p i) (cases-eq i n)
     go f (inl d) = or-right (anyBelow n p) (p n) (ap p (sym d) ∙ e)
     go f (inr d) = or-left (anyBelow n p) (p n) (f (let q : i < n = omega arith in q) e)
 
-one-or-none : (b : Bool) → oneIf b ≤ 1
+-- yes counts once
+pub one-or-none : (b : Bool) → oneIf b ≤ 1
 one-or-none true = omega arith
 one-or-none false = omega arith
 

@@ -3,7 +3,7 @@ use mathlib.Core.Path.{_≡_, sym, _∙_, subst}
 use mathlib.Core.Logic.{_⊎_, inl, inr}
 use mathlib.Core.Bool.{true, false}
 use Prim.Native.Nat.{ℕ, _+_, _-_, _*_, _/_, _^_, _<_, _≤_}
-use native.Mathlib.Nat.{mul-le-mul, le-of-eq, le-of-suc-le-suc, lt-of-le-of-lt, div-mul-le-self, mul-div-cancel}
+use native.Mathlib.Nat.{le-of-eq, le-of-suc-le-suc, lt-of-le-of-lt, div-mul-le-self, mul-div-cancel}
 use native.Mathlib.Omega.{arith}
 use lib.Pow.{pow-pos, shl-shr}
 use Rattle.std.proofs.shelf.Tests.{cases-bool, leb-true, leb-false, ltb-false, not-true, true≢false, cond-both}
@@ -16,16 +16,13 @@ use Rattle.crossing.specs.Regions.{beyond, crosses, boxAt, crossings, Found}
 use Rattle.crossing.specs.Discs.{apart, within, coarse, reached, added, crossingSum}
 use Rattle.crossing.specs.Laws.{DiscCrossings}
 use Rattle.crossing.proofs.CountLaws.{sum-le, covered-pairs, count-none}
-use Rattle.crossing.proofs.SquareLaws.{root-le, triangle, near, steps, quotient-place}
+use Rattle.crossing.proofs.SquareLaws.{square-le, root-le, triangle, near, steps, quotient-place}
 use Rattle.crossing.proofs.RegionLaws.{crosses-means}
 
 -- the places of a box, by how their codes begin
 in-box-at : (k t m r : ℕ) → inBox (boxAt k t) m r ≡ true → prefix k (codeOf m r) ≡ t
 unfolding inBox prefix
 in-box-at k t m r h = holds-true (boxAt k t) (codeOf m r) h ∙ shl-shr t (32 - k)
-
-square-le : (x y : ℕ) → x ≤ y → x * x ≤ y * y
-square-le x y h = mul-le-mul h h
 
 -- at most radius from the centre along each axis
 leg-le : (u v radius : ℕ) → u * u + v * v ≤ radius * radius → u ≤ radius

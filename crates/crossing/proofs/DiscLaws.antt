@@ -3,7 +3,7 @@ use mathlib.Core.Path.{_≡_, sym, _∙_, ap₂, subst}
 use mathlib.Core.Logic.{inl, inr}
 use mathlib.Core.Bool.{true}
 use Prim.Native.Nat.{ℕ, _+_, _-_, _*_, _^_, _<_, _≤_, min, max}
-use native.Mathlib.Nat.{mul-le-mul, add-le-add}
+use native.Mathlib.Nat.{add-le-add}
 use native.Mathlib.Omega.{arith}
 use lib.Dec.{leb, ltb}
 use Rattle.std.proofs.shelf.Tests.{cases-lt, leb-true, lt-ltb, le-ltb, le-leb, lt-leb, not-from-true, not-from-false}
@@ -12,10 +12,8 @@ use Rattle.place.proofs.SideLaws.{between-parts, parts-between}
 use Rattle.crossing.specs.Regions.{Places, beyond, meets, misses, held, Found}
 use Rattle.crossing.specs.Discs.{apart, within, gapTo, reachTo}
 use Rattle.crossing.specs.Laws.{DiscMisses, DiscHolds}
+use Rattle.crossing.proofs.SquareLaws.{square-le}
 use Rattle.crossing.proofs.RegionLaws.{meets-found, misses-means, held-means}
-
-square-le : (x y : ℕ) → x ≤ y → x * x ≤ y * y
-square-le x y h = mul-le-mul h h
 
 -- the squared distance to a place grows with the distances along the axes
 squares-le : (u v x y : ℕ) → u ≤ x → v ≤ y → u * u + v * v ≤ x * x + y * y

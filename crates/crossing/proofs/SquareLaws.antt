@@ -24,6 +24,10 @@ twice-product x y = go (cases-lt x y)
         let j : 2 * (y * x) ≤ y * y + x * x = subst (λ (z : ℕ). 2 * (y * z) ≤ y * y + z * z) e i in
         omega arith
 
+-- squares grow with their roots
+pub square-le : (x y : ℕ) → x ≤ y → x * x ≤ y * y
+square-le x y h = mul-le-mul h h
+
 pub cauchy : (u v s t : ℕ) → (u * s + v * t) * (u * s + v * t) ≤ (u * u + v * v) * (s * s + t * t)
 cauchy u v s t = omega (arith, twice-product (u * t) (v * s))
 

@@ -18,7 +18,7 @@ use Rattle.quadtreap.specs.Rank.{Valid}
 use Rattle.quadtreap.specs.Walk.{Tests, Answer, answer, tallyOf, taken, both, walk, mapWalk, asked}
 use Rattle.quadtreap.specs.Theorems.{EffortIsBounded}
 use Rattle.place.proofs.BoxLaws.{within-refl, within-trans}
-use Rattle.crossing.proofs.CountLaws.{sum-le}
+use Rattle.crossing.proofs.CountLaws.{sum-le, one-or-none}
 use Rattle.quadtreap.proofs.InsideLaws.{Cell, cell-left, cell-right, cell-outer, middle-in, left-in, right-in, halves-apart, not-left, not-right, by-cells, Inside, Off, inside-wider, lying-build, refuted, Boxed}
 use Rattle.quadtreap.proofs.ValidLaws.{valid-cell, valid-boxed}
 
@@ -51,10 +51,6 @@ differ′ X B F a b =
       | inl h ↦ absurd (both-ways (within X F) a (subst (λ (Y : Box). within Y F ≡ true) (sym (same-true X B h)) b))
       | inr h ↦ rw h
     ]
-
-at-most-one : (b : Bool) → oneIf b ≤ 1
-at-most-one true = omega arith
-at-most-one false = omega arith
 
 abbrev occurs : {K : Type 0} → Tree K → Box → ℕ
 occurs (leaf C c) B = 0
@@ -102,8 +98,8 @@ module _ {K : Type 0} (C : Box) (c : Content K) (p : Reading K) (ps : List (Read
 
   one-path : occurs L B ≤ height L → occurs R B ≤ height R → occurs O B ≤ height O → occurs (pair C (boxIn c) E L R O) B ≤ height (pair C (boxIn c) E L R O)
   one-path l r o =
-      let oneC = at-most-one (same C B) in
-      let oneE = at-most-one (same E B) in
+      let oneC = one-or-none (same C B) in
+      let oneE = one-or-none (same E B) in
       elim (cases-bool (within B E)) [
         | inr e ↦
             let a = differ E B E (within-refl E) e in
