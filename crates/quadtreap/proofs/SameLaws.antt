@@ -52,7 +52,7 @@ all-put P p [] h a = (h, tt)
 all-put P p (r ∷ rs) h a =
     elim (before p r) as (λ v. All P (cond v (p ∷ r ∷ rs) (r ∷ put p rs))) [ true ↦ (h, a) | false ↦ (a .0, all-put P p rs h (a .1)) ]
 
-ranked-put : {K : Type 0} (p : Reading K) (rs : List (Reading K)) → All (λ r. p .code ≡ r .code → ⊥) rs → Ranked rs → Ranked (put p rs)
+pub ranked-put : {K : Type 0} (p : Reading K) (rs : List (Reading K)) → All (λ r. p .code ≡ r .code → ⊥) rs → Ranked rs → Ranked (put p rs)
 ranked-put p [] d a = (tt, tt)
 ranked-put p (r ∷ rs) d a =
     elim (cases-bool (before p r)) [
