@@ -21,8 +21,8 @@ use Rattle.records.specs.Writes.{at}
 use Rattle.records.specs.PlacedPairs.{PlacedPairs, placedLeaf, nodesOf, treeIn, RanksStand, PairFrame, putInAll, nodeFrames}
 use Rattle.records.specs.Promises.{Descends}
 use Rattle.tables.specs.Calls.{Call, repeats, isSome, present, more, roll}
-use Rattle.tables.specs.Totals.{Bears, Totals, climbed}
-use Rattle.tables.specs.Stands.{State, state, Stands, Lain, rootOf, inNest, Serves, Keeps}
+use Rattle.tables.specs.Totals.{Has, Totals, climbed}
+use Rattle.tables.specs.Stands.{State, state, Stands, LiesTallied, rootOf, inTree, Serves, Keeps}
 use Rattle.quadtreap.proofs.CarryLaws.{carried}
 use Rattle.records.proofs.FrameLaws.{one-same, differ, occursAround, LiesAmong, occurs-plug}
 use Rattle.records.proofs.PairLaws.{lies-among, lies-whole, nodes-frames}
@@ -74,8 +74,8 @@ module _ {K : Type 0} (join : K → K → K) (e : K) (k : ℕ) (v : K) where
     abbrev s′ : State K
     s′ = state (s .records) ts2 (s .places) (s .root) (s .live) (s .fresh) (s .freed)
 
-    lain : Lain join e (s .records) ts (putInAll path (placedLeaf i C (reading r)))
-    lain = subst (Lain join e (s .records) ts) (sym whole) (held-lain k join e s rs st far)
+    lain : LiesTallied join e (s .records) ts (putInAll path (placedLeaf i C (reading r)))
+    lain = subst (LiesTallied join e (s .records) ts) (sym whole) (held-lain k join e s rs st far)
 
     focus : LiesAmong (s .records) way old
     focus = lies-among (s .records) path (placedLeaf i C (reading r)) (lain .kept)
@@ -102,7 +102,7 @@ module _ {K : Type 0} (join : K → K → K) (e : K) (k : ℕ) (v : K) where
     joined = ap (λ x. join x v) (totals-old .0 .reads e) ∙ ap (λ b. cond b (join (r .tally) v) (r .tally)) (sym (eq-eqb k (r .code) is))
 
     totals-new : Totals join e ts1 new
-    totals-new = subst (λ x. Bears ts1 i x) joined (bears-same join e ts i (join (getD ts i e) v) (totals-old .0 .within))
+    totals-new = subst (λ x. Has ts1 i x) joined (bears-same join e ts i (join (getD ts i e) v) (totals-old .0 .within))
 
     off : occursAround i way ≡ 0
     off = let o = focus .once i in let s1 = one-same i in omega arith
@@ -117,9 +117,9 @@ module _ {K : Type 0} (join : K → K → K) (e : K) (k : ℕ) (v : K) where
     climbed-up : Climbs join e (s .records) ts1 ts2 way new
     climbed-up = climbs join e (s .records) (s .places) way new ts1 focus′ short totals-new (beside-other join e ts i _ way off (totals-old .1))
 
-    same-places : (j : ℕ) → occurs j (nodesOf after) ≡ inNest j (st .nest)
+    same-places : (j : ℕ) → occurs j (nodesOf after) ≡ inTree j (st .placed)
     same-places j =
-        ap (occurs j) new-nodesOf ∙ occurs-plug way new j ∙ sym (occurs-plug way old j) ∙ ap (occurs j) (sym old-nodesOf) ∙ ap (inNest j) (sym (held-is k join e s rs st far))
+        ap (occurs j) new-nodesOf ∙ occurs-plug way new j ∙ sym (occurs-plug way old j) ∙ ap (occurs j) (sym old-nodesOf) ∙ ap (inTree j) (sym (held-is k join e s rs st far))
 
     few : heads k (unplaced (plug way old)) ≤ 1
     few = subst (λ p. heads k (unplaced p) ≤ 1) old-nodesOf (heads-few k rs _ (st .valid) (held-tree k join e s rs st far))
@@ -147,7 +147,7 @@ module _ {K : Type 0} (join : K → K → K) (e : K) (k : ℕ) (v : K) where
       valid = valid-carry (more join k v) rs (st .valid);
       ranked = ranked-carry (more join k v) rs (st .ranked);
       count = st .count ∙ sym (length-carry (more join k v) rs);
-      nest = some after;
+      placed = some after;
       tree = tree′;
       lies = record { kept = kept′; right = right′; totals = subst (Totals join e ts2) (sym new-nodesOf) (climbed-up .totals) };
       top = st .top ∙ ap rootOf (held-is k join e s rs st far) ∙ ap placeOf old-nodesOf ∙ placeOf-plug way old new refl ∙ sym (ap placeOf new-nodesOf);

@@ -15,15 +15,15 @@ use Rattle.quadtreap.specs.Tree.{nodes}
 use Rattle.quadtreap.specs.Walk.{tallyOf}
 use Rattle.records.specs.PlacedNodes.{Kind, shrinks, splits, kindOf, inRecord, PlacedNodes, leafAt, nodeAt, unplaced, grown, placeOf, one, occurs, NodeFrame, first, second, plug, above}
 use Rattle.records.specs.Writes.{at}
-use Rattle.tables.specs.Totals.{Bears, Totals, renewed, climbed}
+use Rattle.tables.specs.Totals.{Has, Totals, renewed, climbed}
 use Rattle.records.proofs.FrameLaws.{one-same, differ, occursAround, LiesAmong, up-first, up-second}
 
 module _ {K : Type 0} (join : K → K → K) (e : K) where
   -- a write elsewhere
-  pub bears-other : (ts : List K) (q : ℕ) (x : K) (i : ℕ) (k : K) → one q i ≡ 0 → Bears ts i k → Bears (set ts q x) i k
+  pub bears-other : (ts : List K) (q : ℕ) (x : K) (i : ℕ) (k : K) → one q i ≡ 0 → Has ts i k → Has (set ts q x) i k
   bears-other ts q x i k far h = record { within = simp length-set (h .within); reads = λ d. getD-set-other ts q i x d (λ z. differ q i far (sym z)) ∙ h .reads d }
 
-  pub bears-same : (ts : List K) (i : ℕ) (x : K) → i < length ts → Bears (set ts i x) i x
+  pub bears-same : (ts : List K) (i : ℕ) (x : K) → i < length ts → Has (set ts i x) i x
   bears-same ts i x h = record { within = simp length-set h; reads = λ d. getD-set-same ts i x d h }
 
   pub totals-other : (ts : List K) (q : ℕ) (x : K) (t : PlacedNodes K) → occurs q t ≡ 0 → Totals join e ts t → Totals join e (set ts q x) t
@@ -31,7 +31,7 @@ module _ {K : Type 0} (join : K → K → K) (e : K) where
   totals-other ts q x (nodeAt k p r C g a b) far h =
       (bears-other ts q x p _ (omega arith) (h .0), totals-other ts q x a (omega arith) (h .1), totals-other ts q x b (omega arith) (h .2))
 
-  pub root-bears : (ts : List K) (t : PlacedNodes K) → Totals join e ts t → Bears ts (placeOf t) (tallyOf join e (unplaced t))
+  pub root-bears : (ts : List K) (t : PlacedNodes K) → Totals join e ts t → Has ts (placeOf t) (tallyOf join e (unplaced t))
   root-bears ts (leafAt p C c) h = h
   root-bears ts (nodeAt k p r C g a b) h = h .0
 
@@ -75,7 +75,7 @@ module _ {K : Type 0} (join : K → K → K) (e : K) where
         ∙ ap (λ (v : Record). run n (v .parent) (renewed join e ts i (v .first) (v .second))) is ∙ sym (goes n i ts far)
 
     -- a turn at a node whose children bear x and y
-    steps-on : (n p a b q : ℕ) (ts : List K) (x y : K) (r : Record) → p < 65535 → at recs p ≡ r → r .first ≡ a → r .second ≡ b → r .parent ≡ q → Bears ts a x → Bears ts b y
+    steps-on : (n p a b q : ℕ) (ts : List K) (x y : K) (r : Record) → p < 65535 → at recs p ≡ r → r .first ≡ a → r .second ≡ b → r .parent ≡ q → Has ts a x → Has ts b y
         → run (suc n) p ts ≡ run n q (set ts p (join x y))
     steps-on n p a b q ts x y r low is fa fb fq ha hb =
         goes n p ts (λ z. omega arith)
@@ -107,7 +107,7 @@ module _ {K : Type 0} (join : K → K → K) (e : K) where
         let low : p < 65535 = below (first k p r C g b ∷ f) t p h (omega arith) in
         let turn : run (suc n) p ts ≡ run n (above f) (set ts p x) =
         steps-on n p (placeOf t) (placeOf b) (above f) ts _ _ (inRecord (kindOf k) C g (placeOf t) (placeOf b) (above f) r) low (h .around .0 .reads) refl refl refl (root-bears ts t tot) (root-bears ts b (bes .1)) in
-        let here : Bears (set ts p x) p (tallyOf join e (unplaced (nodeAt k p r C g t b))) = subst (λ (v : K). Bears (set ts p x) p v) (joins k C g t b) (bears-same ts p x (bes .0)) in
+        let here : Has (set ts p x) p (tallyOf join e (unplaced (nodeAt k p r C g t b))) = subst (λ (v : K). Has (set ts p x) p v) (joins k C g t b) (bears-same ts p x (bes .0)) in
         let on : Climbs (set ts p x) (run n (above f) (set ts p x)) f (nodeAt k p r C g t b) =
         climbs n f (nodeAt k p r C g t b) (set ts p x) (up-first recs f k p r C g t b h) (omega arith)
         (here, totals-other ts p x t (omega arith) tot, totals-other ts p x b (omega arith) (bes .1)) (beside-other ts p x f (omega arith) (bes .2)) in
@@ -124,7 +124,7 @@ module _ {K : Type 0} (join : K → K → K) (e : K) where
         let low : p < 65535 = below (second k p r C g a ∷ f) t p h (omega arith) in
         let turn : run (suc n) p ts ≡ run n (above f) (set ts p x) =
         steps-on n p (placeOf a) (placeOf t) (above f) ts _ _ (inRecord (kindOf k) C g (placeOf a) (placeOf t) (above f) r) low (h .around .0 .reads) refl refl refl (root-bears ts a (bes .1)) (root-bears ts t tot) in
-        let here : Bears (set ts p x) p (tallyOf join e (unplaced (nodeAt k p r C g a t))) = subst (λ (v : K). Bears (set ts p x) p v) (joins k C g a t) (bears-same ts p x (bes .0)) in
+        let here : Has (set ts p x) p (tallyOf join e (unplaced (nodeAt k p r C g a t))) = subst (λ (v : K). Has (set ts p x) p v) (joins k C g a t) (bears-same ts p x (bes .0)) in
         let on : Climbs (set ts p x) (run n (above f) (set ts p x)) f (nodeAt k p r C g a t) =
         climbs n f (nodeAt k p r C g a t) (set ts p x) (up-second recs f k p r C g a t h) (omega arith)
         (here, totals-other ts p x a (omega arith) (bes .1), totals-other ts p x t (omega arith) tot) (beside-other ts p x f (omega arith) (bes .2)) in

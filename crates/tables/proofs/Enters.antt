@@ -20,7 +20,7 @@ use Rattle.records.specs.PlacedPairs.{PlacedPairs, placedLeaf, nodesOf, treeIn,
 use Rattle.records.specs.Promises.{Descends}
 use Rattle.tables.specs.Calls.{reads}
 use Rattle.tables.specs.Totals.{Totals, mended, Tables, raised}
-use Rattle.tables.specs.Stands.{State, state, Stands, Lain, inNest, among, unused, takes, freedAfter, freshAfter}
+use Rattle.tables.specs.Stands.{State, state, Stands, LiesTallied, inTree, among, unused, takes, freedAfter, freshAfter}
 use Rattle.records.specs.Elsewhere.{Elsewhere}
 use Rattle.quadtreap.proofs.NodeLaws.{node-count}
 use Rattle.quadtreap.proofs.MapLaws.{enter-gives-tree}
@@ -72,7 +72,7 @@ module _ {K : Type 0} (join : K → K → K) (e : K) (k priority : ℕ) (v : K) 
   abbrev t : PlacedPairs K
   t = held k join e s rs st far
 
-  lain : Lain join e (s .records) (s .tallies) t
+  lain : LiesTallied join e (s .records) (s .tallies) t
   lain = held-lain k join e s rs st far
 
   abbrev way : Reaches t k i
@@ -158,8 +158,8 @@ module _ {K : Type 0} (join : K → K → K) (e : K) (k priority : ℕ) (v : K) 
       let d = one-not j (n .outer) (λ z. let q = t4 .below in omega arith) in
       omega arith
 
-  in-whole : (j : ℕ) → inNest j (st .nest) ≡ one j i + occursAround j f
-  in-whole j = ap (inNest j) (held-is k join e s rs st far) ∙ ap (occurs j) whole-nodesOf ∙ occurs-plug f (leafAt i (way .box) (way .content)) j
+  in-whole : (j : ℕ) → inTree j (st .placed) ≡ one j i + occursAround j f
+  in-whole j = ap (inTree j) (held-is k join e s rs st far) ∙ ap (occurs j) whole-nodesOf ∙ occurs-plug f (leafAt i (way .box) (way .content)) j
 
   once : (j : ℕ) → four j n + (one j i + occursAround j f) ≤ 1
   once j =
@@ -226,7 +226,7 @@ module _ {K : Type 0} (join : K → K → K) (e : K) (k priority : ℕ) (v : K) 
       let b = places-plant n i (way .box) (way .content) p j in
       omega arith
 
-  all-places : (j : ℕ) → occurs j (nodesOf entered) ≡ four j n + inNest j (st .nest)
+  all-places : (j : ℕ) → occurs j (nodesOf entered) ≡ four j n + inTree j (st .placed)
   all-places j = let a = rise .places j in let b = sowed-places j in let c = in-whole j in omega arith
 
   tree : some (treeIn entered) ≡ treeOf (put p rs)
@@ -252,7 +252,7 @@ module _ {K : Type 0} (join : K → K → K) (e : K) (k priority : ℕ) (v : K) 
         valid = ranks .0;
         ranked = ranks .1;
         count = let c = st .count in omega arith;
-        nest = some entered;
+        placed = some entered;
         tree = tree;
         lies = record { kept = rise .kept; right = enters-ranks t p i n way (lain .right); totals = rise .totals };
         top = rise .top;

@@ -16,7 +16,7 @@ use Rattle.records.specs.PlacedNodes.{leafAt, recordOf, above, LiesIn}
 use Rattle.records.specs.Writes.{at}
 use Rattle.records.specs.PlacedPairs.{PlacedPairs, placedLeaf, placedPair, nodesOf, treeIn, topPlace, PairFrame, onLeftAt, onRightAt, onOuterAt, putInAll, frames, nodeFrames}
 use Rattle.records.specs.Promises.{Descends}
-use Rattle.tables.specs.Stands.{State, Stands, Lain, Lies, mapBare, rootOf}
+use Rattle.tables.specs.Stands.{State, Stands, LiesTallied, Lies, mapTree, rootOf}
 use Rattle.quadtreap.proofs.FindLaws.{finds}
 use Rattle.records.proofs.FrameLaws.{root-occurs}
 use Rattle.records.proofs.PairLaws.{lies-among}
@@ -68,20 +68,20 @@ module _ {K : Type 0} (k : ℕ) where
     -- an empty map
     pub none-found : s .root ≡ 65535 → lookup k rs ≡ none
     none-found is =
-        let o = none-of join e (s .records) (s .tallies) (s .root) (st .nest) (st .lies) (st .top) is in
-        sym (finds k rs (st .valid)) ∙ ap (λ u. mapFind u k) (sym (st .tree) ∙ ap mapBare o)
+        let o = none-of join e (s .records) (s .tallies) (s .root) (st .placed) (st .lies) (st .top) is in
+        sym (finds k rs (st .valid)) ∙ ap (λ u. mapFind u k) (sym (st .tree) ∙ ap mapTree o)
 
     module _ (far : s .root ≢ 65535) where
       abbrev pub held : PlacedPairs K
-      held = whole-of (s .root) (st .nest) (st .top) far .0
+      held = whole-of (s .root) (st .placed) (st .top) far .0
 
-      pub held-is : st .nest ≡ some held
-      held-is = whole-of (s .root) (st .nest) (st .top) far .1
+      pub held-is : st .placed ≡ some held
+      held-is = whole-of (s .root) (st .placed) (st .top) far .1
 
       pub held-tree : treeOf rs ≡ some (treeIn held)
-      held-tree = sym (st .tree) ∙ ap mapBare held-is
+      held-tree = sym (st .tree) ∙ ap mapTree held-is
 
-      pub held-lain : Lain join e (s .records) (s .tallies) held
+      pub held-lain : LiesTallied join e (s .records) (s .tallies) held
       held-lain = subst (λ o. Lies join e (s .records) (s .tallies) o) held-is (st .lies)
 
       pub held-top : s .root ≡ topPlace held

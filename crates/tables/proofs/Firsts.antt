@@ -15,7 +15,7 @@ use Rattle.quadtreap.specs.Rank.{put}
 use Rattle.records.specs.PlacedNodes.{leafAt, one, blank, recordOf, LiesIn}
 use Rattle.records.specs.PlacedPairs.{placedLeaf}
 use Rattle.tables.specs.Calls.{reads, isSome}
-use Rattle.tables.specs.Stands.{State, state, Stands, mapBare, inNest, takes, freedAfter, freshAfter}
+use Rattle.tables.specs.Stands.{State, state, Stands, mapTree, inTree, takes, freedAfter, freshAfter}
 use Rattle.records.specs.Elsewhere.{Elsewhere}
 use Rattle.records.proofs.FrameLaws.{one-same, differ}
 use Rattle.tables.proofs.Climbs.{bears-same}
@@ -34,17 +34,17 @@ module _ {K : Type 0} (join : K → K → K) (e : K) (k priority : ℕ) (v : K) 
   abbrev p : Reading K
   p = reads k priority v
 
-  no-nest : st .nest ≡ none
-  no-nest = none-of k join e (s .records) (s .tallies) (s .root) (st .nest) (st .lies) (st .top) treeIn′
+  no-nest : st .placed ≡ none
+  no-nest = none-of k join e (s .records) (s .tallies) (s .root) (st .placed) (st .lies) (st .top) treeIn′
 
   pub no-readings : rs ≡ []
-  no-readings = empty-list rs (sym (st .tree) ∙ ap mapBare no-nest)
+  no-readings = empty-list rs (sym (st .tree) ∙ ap mapTree no-nest)
 
   no-nodes : mapNodes (treeOf rs) ≡ 0
   no-nodes = ap (λ l. mapNodes (treeOf l)) no-readings
 
-  no-place : (j : ℕ) → inNest j (st .nest) ≡ 0
-  no-place j = ap (inNest j) no-nest
+  no-place : (j : ℕ) → inTree j (st .placed) ≡ 0
+  no-place j = ap (inTree j) no-nest
 
   pool : Pool (s .places) (s .records) (s .freed) (s .fresh) (st .spare)
   pool = record { chain = st .chain; inside = λ j h. let q = st .past j h in omega arith; small = let q = st .size in omega arith; fits = st .fits }
@@ -81,7 +81,7 @@ module _ {K : Type 0} (join : K → K → K) (e : K) (k priority : ℕ) (v : K) 
     valid = (small, tt, tt);
     ranked = (tt, tt);
     count = refl;
-    nest = some (placedLeaf i whole (reading p));
+    placed = some (placedLeaf i whole (reading p));
     tree = refl;
     lies = record { kept = kept; right = tt; totals = bears-same join e (s .tallies) i v (inside .1) };
     top = refl;

@@ -5,13 +5,13 @@ use Prim.Native.Nat.{ℕ}
 use Rattle.quadtreap.specs.Tree.{mapHeight}
 use Rattle.records.specs.Heights.{Heights as NodeHeights}
 use Rattle.tables.specs.Heights.{Heights}
-use Rattle.tables.specs.Stands.{State, mapBare}
+use Rattle.tables.specs.Stands.{State, mapTree}
 use Rattle.tables.proofs.Finds.{none-of, held, held-tree, held-lain, held-top, held-few}
 
 module _ {K : Type 0} (join : K → K → K) (e : K) (s : State K) where
   pub height-empty : s .root ≡ 65535 → Heights join e s 0
   height-empty is cs st =
-      ap mapHeight (sym (ap mapBare (none-of 0 join e (s .records) (s .tallies) (s .root) (st .nest) (st .lies) (st .top) is)) ∙ st .tree)
+      ap mapHeight (sym (ap mapTree (none-of 0 join e (s .records) (s .tallies) (s .root) (st .placed) (st .lies) (st .top) is)) ∙ st .tree)
 
   pub height-held : (r : ℕ) → s .root ≢ 65535 → NodeHeights K (s .records) (s .root) (s .places) r → Heights join e s r
   height-held r far told cs st =

@@ -18,7 +18,7 @@ use Rattle.quadtreap.specs.Walk.{tallyOf}
 use Rattle.records.specs.PlacedNodes.{PlacedNodes, leafAt, nodeAt, pairAt, orderedNodes, carried, unplaced, placeOf, one, occurs, NodesRecorded, NodeFrame, first, second, above}
 use Rattle.records.specs.Writes.{at}
 use Rattle.records.specs.PlacedPairs.{PlacedPairs, placedLeaf, placedPair, nodesOf, treeIn, topPlace, PairFrame, onLeftAt, onRightAt, onOuterAt, nodeFrames, orderedAt, madeBefore, settledAt, risenOver}
-use Rattle.tables.specs.Totals.{Bears, Totals, renewed, mended}
+use Rattle.tables.specs.Totals.{Has, Totals, renewed, mended}
 use Rattle.records.proofs.FrameLaws.{one-same, differ, root-occurs, occursAround, LiesAmong}
 use Rattle.records.proofs.SettleLaws.{nodes-ordered, place-ordered}
 use Rattle.records.proofs.CountLaws.{places-ordered}
@@ -39,7 +39,7 @@ module _ {K : Type 0} (join : K → K → K) (e : K) where
   pub onward : (used a b : ℕ → ℕ) (ts ts1 ts2 : List K) → ((j : ℕ) → used j ≡ 0 → a j ≡ 0) → ((j : ℕ) → used j ≡ 0 → b j ≡ 0) → Beyond a ts ts1 → Beyond b ts1 ts2 → Beyond used ts ts2
   onward used a b ts ts1 ts2 ta tb p q = record { long = q .long ∙ p .long; reads = λ j d h. q .reads j d (tb j h) ∙ p .reads j d (ta j h) }
 
-  bears-in : (ts ts′ : List K) → length ts′ ≡ length ts → (p : ℕ) (x : K) → ((d : K) → getD ts′ p d ≡ getD ts p d) → Bears ts p x → Bears ts′ p x
+  bears-in : (ts ts′ : List K) → length ts′ ≡ length ts → (p : ℕ) (x : K) → ((d : K) → getD ts′ p d ≡ getD ts p d) → Has ts p x → Has ts′ p x
   bears-in ts ts′ len p x agree h = record { within = subst (λ n. p < n) (sym len) (h .within); reads = λ d. agree d ∙ h .reads d }
 
   pub totals-in : (used : ℕ → ℕ) (ts ts′ : List K) → Beyond used ts ts′ → (t : PlacedNodes K) → ((j : ℕ) → 1 ≤ occurs j t → used j ≡ 0) → Totals join e ts t → Totals join e ts′ t
@@ -95,12 +95,12 @@ module _ {K : Type 0} (join : K → K → K) (e : K) where
       subst (λ (l : List K). Mends ts l s w (pairAt s w r C g E L R O)) (sym is)
       record {
         totals = (
-          subst (λ v. Bears ts2 s v)
+          subst (λ v. Has ts2 s v)
               (ap (λ v. join v (getD ts1 (placeOf O) e)) (getD-set-same ts w x e inw ∙ inner′)
               ∙ ap (join (join (sum L) (sum R))) (getD-set-other ts w (placeOf O) x e (differ (placeOf O) w offO) ∙ root-bears join e ts O ho .reads e))
               (bears-same join e ts1 s y (simp length-set ins)),
           (
-            subst (λ v. Bears ts2 w v) inner′ (bears-other join e ts1 s y w x (omega arith) (bears-same join e ts w x inw)),
+            subst (λ v. Has ts2 w v) inner′ (bears-other join e ts1 s y w x (omega arith) (bears-same join e ts w x inw)),
             keep L (λ j. let q = once j in omega arith) hl,
             keep R (λ j. let q = once j in omega arith) hr,
           ),

@@ -14,7 +14,7 @@ use Rattle.quadtreap.specs.Walk.{tallyOf}
 use Rattle.records.specs.PlacedNodes.{leafAt, one, NodesRecorded, NodeFrame, above}
 use Rattle.records.specs.Writes.{planted}
 use Rattle.records.specs.PlacedPairs.{PlacedPairs, placedLeaf, nodesOf, Free, four, plantedAt}
-use Rattle.tables.specs.Totals.{Bears, Totals, mended}
+use Rattle.tables.specs.Totals.{Has, Totals, mended}
 use Rattle.records.specs.Elsewhere.{Elsewhere}
 use Rattle.records.proofs.FrameLaws.{one-same, differ, occursAround, LiesAmong}
 use Rattle.records.proofs.SettleLaws.{nodes-ordered}
@@ -59,10 +59,10 @@ module _ {K : Type 0} (join : K → K → K) (e : K) where
       let qr = once (n .reading) in
       let qo = once (n .outer) in
       let far : n .shrink ≢ 65535 = λ z. let l = free .low (n .shrink) (omega arith) in absurd (omega arith) in
-      let leaf′ : Bears ts2 i (tallyOf join e (leaf (half E (extent c)) c)) =
-      subst (λ x. Bears ts2 i x) (leaf-sum C (half E (extent c)) c) (bears-other join e ts1 (n .outer) e i _ (omega arith) (bears-other join e ts (n .reading) (p .tally) i _ (omega arith) tot)) in
-      let read′ : Bears ts2 (n .reading) (p .tally) = bears-other join e ts1 (n .outer) e (n .reading) _ (omega arith) (bears-same join e ts (n .reading) (p .tally) lr) in
-      let out′ : Bears ts2 (n .outer) e = bears-same join e ts1 (n .outer) e (simp length-set lo) in
+      let leaf′ : Has ts2 i (tallyOf join e (leaf (half E (extent c)) c)) =
+      subst (λ x. Has ts2 i x) (leaf-sum C (half E (extent c)) c) (bears-other join e ts1 (n .outer) e i _ (omega arith) (bears-other join e ts (n .reading) (p .tally) i _ (omega arith) tot)) in
+      let read′ : Has ts2 (n .reading) (p .tally) = bears-other join e ts1 (n .outer) e (n .reading) _ (omega arith) (bears-same join e ts (n .reading) (p .tally) lr) in
+      let out′ : Has ts2 (n .outer) e = bears-same join e ts1 (n .outer) e (simp length-set lo) in
       let len : length ts2 ≡ length ts = length-set ts1 (n .outer) e ∙ length-set ts (n .reading) (p .tally) in
       let m = mends-ordered join e recs′ ts2 (above f) (n .shrink) (n .split) C (boxIn c) E (leafAt i (half E (extent c)) c) (leafAt (n .reading) (half E (pointOf p)) (reading p)) (leafAt (n .outer) C (box E))
       (subst (NodesRecorded recs′ (above f)) is (focus′ .laid)) (λ j. let q = once j in omega arith) far (subst (λ k. n .shrink < k) (sym len) ls) (subst (λ k. n .split < k) (sym len) lw) leaf′ read′ out′ in

@@ -17,7 +17,7 @@ use Rattle.quadtreap.specs.Walk.{tallyOf}
 use Rattle.records.specs.Writes.{Sink, sunkIn}
 use Rattle.records.specs.PlacedPairs.{PlacedPairs, placedLeaf, placedPair, nodesOf, treeIn, topPlace, rank, PairFrame, nodeFrames}
 use Rattle.records.specs.StrikeMoves.{StrikeMove, replacedAt, Pair, whole, madeAt, leftOver, outerOver, exchangedAt, movePair, moveOf}
-use Rattle.tables.specs.Totals.{Bears, Totals}
+use Rattle.tables.specs.Totals.{Has, Totals}
 use Rattle.records.proofs.StrikeLaws.{Keeps, Next}
 use Rattle.records.proofs.MoveCases.{by-cases}
 use Rattle.tables.proofs.Climbs.{Beside}
@@ -28,7 +28,7 @@ module _ {K : Type 0} (join : K → K → K) (e : K) (ts : List K) (k : ℕ) whe
   Under (placedLeaf p C c) = Totals join e ts (nodesOf (placedLeaf p C c))
   Under (placedPair s w r C i E L R O) =
       (s < length ts) × (w < length ts) × Totals join e ts (nodesOf L) × Totals join e ts (nodesOf R) × Totals join e ts (nodesOf O)
-      × (Bears ts w (tallyOf join e (split E i (treeIn L) (treeIn R))) ⊎ (eqb k (rank R .code) ≡ true))
+      × (Has ts w (tallyOf join e (split E i (treeIn L) (treeIn R))) ⊎ (eqb k (rank R .code) ≡ true))
 
   pub under : (t : PlacedPairs K) → Totals join e ts (nodesOf t) → Under t
   under (placedLeaf p C c) h = h
@@ -58,7 +58,7 @@ module _ {K : Type 0} (join : K → K → K) (e : K) (ts : List K) (k : ℕ) whe
 
     entries-pair : (x : Pair K) → Under (whole x) → P (movePair x k)
     entries-pair x h =
-        let split-right : eqb k (rank (x .right) .code) ≡ false → Bears ts (x .split) (tallyOf join e (split (x .box) (x .inner) (treeIn (x .left)) (treeIn (x .right)))) =
+        let split-right : eqb k (rank (x .right) .code) ≡ false → Has ts (x .split) (tallyOf join e (split (x .box) (x .inner) (treeIn (x .left)) (treeIn (x .right)))) =
         λ er. elim (h .5) [ inl a ↦ a | inr a ↦ absurd (false≢true (sym er ∙ a)) ] in
         by-cases P x k record {
           last-right = λ _ _. (bes, under-seat (x .outer) (x .left) (h .2));

@@ -24,7 +24,7 @@ use Rattle.records.specs.StrikeMoves.{movesIn}
 use Rattle.records.specs.Promises.{Frees}
 use Rattle.tables.specs.Calls.{isSome, present}
 use Rattle.tables.specs.Totals.{Totals, climbed}
-use Rattle.tables.specs.Stands.{State, state, Stands, Lain, inNest, among}
+use Rattle.tables.specs.Stands.{State, state, Stands, LiesTallied, inTree, among}
 use Rattle.tables.specs.Removal.{given, fourGiven, struckState, emptiedState}
 use Rattle.records.specs.Elsewhere.{Elsewhere}
 use Rattle.quadtreap.proofs.NodeLaws.{node-count}
@@ -81,7 +81,7 @@ module _ {K : Type 0} (join : K → K → K) (e : K) (k : ℕ) (s : State K) (rs
   abbrev N : ℕ
   N = s .places
 
-  lain : Lain join e (s .records) (s .tallies) t
+  lain : LiesTallied join e (s .records) (s .tallies) t
   lain = held-lain k join e s rs st far
 
   few : nodes (treeIn t) ≤ N
@@ -93,8 +93,8 @@ module _ {K : Type 0} (join : K → K → K) (e : K) (k : ℕ) (s : State K) (rs
   nodes-before : 4 * length rs - 3 ≡ nodes (treeIn t)
   nodes-before = sym (node-count rs) ∙ ap mapNodes tree-before
 
-  in-whole : (j : ℕ) → inNest j (st .nest) ≡ occurs j (nodesOf t)
-  in-whole j = ap (inNest j) (held-is k join e s rs st far)
+  in-whole : (j : ℕ) → inTree j (st .placed) ≡ occurs j (nodesOf t)
+  in-whole j = ap (inTree j) (held-is k join e s rs st far)
 
   wide : N ≤ length (s .records)
   wide = let q = st .size in omega arith
@@ -134,7 +134,7 @@ module _ {K : Type 0} (join : K → K → K) (e : K) (k : ℕ) (s : State K) (rs
           valid = ranks .0;
           ranked = ranks .1;
           count = last-live;
-          nest = none;
+          placed = none;
           tree = gone;
           lies = tt;
           top = refl;
@@ -269,7 +269,7 @@ module _ {K : Type 0} (join : K → K → K) (e : K) (k : ℕ) (s : State K) (rs
           valid = ranks .0;
           ranked = ranks .1;
           count = struck-live;
-          nest = some u;
+          placed = some u;
           tree = tree;
           lies = record { kept = kept2; right = final N t k (lain .right) (stays-paired .0 rs (treeIn t) tree-before .0) few; totals = subst (Totals join e ts2) (sym nodesOf-after) (up .totals) };
           top = tops recs1 N way leaf′ (land .focus) short ∙ ap placeOf (sym nodesOf-after);

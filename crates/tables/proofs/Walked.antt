@@ -11,7 +11,7 @@ use Rattle.quadtreap.specs.Tree.{Reading, treeOf, nodes, mapHeight}
 use Rattle.quadtreap.specs.Walk.{Tests, asked, Joins, Answer, answer, mapWalk, Subset}
 use Rattle.records.specs.PlacedPairs.{PlacedPairs, nodesOf, treeIn}
 use Rattle.tables.specs.Calls.{roll}
-use Rattle.tables.specs.Stands.{State, Stands, Lain, mapBare}
+use Rattle.tables.specs.Stands.{State, Stands, LiesTallied, mapTree}
 use Rattle.tables.specs.Walks.{numbered, starts, ran}
 use Rattle.tables.specs.Tallies.{Answers}
 use Rattle.quadtreap.proofs.WalkLaws.{same-tests, counts-each-once}
@@ -35,12 +35,12 @@ module _ {K : Type 0} (join : K → K → K) (e : K) (laws : Joins join e) (s : 
     found-empty : s .root ≡ 65535 → found (run q) ≡ mapWalk join e q (treeOf rs)
     found-empty is =
         ap (λ (i : ℕ). found (ran join e q (s .records) (s .tallies) (s .places * 2) (starts i e))) is ∙ ap found (stops join e q (s .records) (s .tallies) (s .places * 2) (starts 65535 e) refl)
-        ∙ ap (mapWalk join e q) (sym (ap mapBare (none-of 0 join e (s .records) (s .tallies) (s .root) (st .nest) (st .lies) (st .top) is)) ∙ st .tree)
+        ∙ ap (mapWalk join e q) (sym (ap mapTree (none-of 0 join e (s .records) (s .tallies) (s .root) (st .placed) (st .lies) (st .top) is)) ∙ st .tree)
 
     found-held : s .root ≢ 65535 → found (run q) ≡ mapWalk join e q (treeOf rs)
     found-held far =
         let t : PlacedPairs K = held 0 join e s rs st far in
-        let lain : Lain join e (s .records) (s .tallies) t = held-lain 0 join e s rs st far in
+        let lain : LiesTallied join e (s .records) (s .tallies) t = held-lain 0 join e s rs st far in
         let laid : Laid join e q laws (s .records) (s .tallies) 65535 (nodesOf t) = record { laid = lain .kept .laid; totals = lain .totals; once = lain .kept .once; low = lain .kept .low } in
         let few : 2 * nodes (treeIn t) ≤ s .places * 2 = (let f = held-few 0 join e s rs st far in omega arith) in
         ap (λ (i : ℕ). found (ran join e q (s .records) (s .tallies) (s .places * 2) (starts i e))) (held-top 0 join e s rs st far)

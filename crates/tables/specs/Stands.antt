@@ -1,4 +1,13 @@
 -- What it is for the tables of a map to hold some readings, and what a call promises.
+--   State, state                     what a map is made of
+--   mapTree, rootOf, inTree          the tree of a map with the places of its nodes
+--   among, unused, Chain             the places that are free
+--   LiesTallied, Lies                a tree that lies in both tables
+--   Stands                           the map holds the readings of a list
+--   Serves, Keeps                    what a call promises after some calls, and after any calls
+--   takes, freedAfter, freshAfter    the next free place, and what is free after it is taken
+--   fourTaken, freedLast, freshLast  the same for four places
+--   grownTables, started             both tables after a reading is entered
 use mathlib.Core.Path.{_≡_}
 use mathlib.Core.Bool.{Bool, true, false, cond}
 use mathlib.Core.List.{List, [], _∷_}
@@ -17,7 +26,7 @@ use Rattle.records.specs.Writes.{at, planted, leafRecord}
 use Rattle.records.specs.PlacedPairs.{PlacedPairs, nodesOf, treeIn, topPlace, RanksStand}
 use Rattle.tables.specs.Totals.{Totals, Tables, mended, raised}
 
--- what a map is made of
+-- What a map is made of: both tables, the number of places, the place of the root, the number live, how many places were ever used, and the place that was freed last.
 pub record State (K : Type 0) : Type 0 where
   pub records : List Record
   pub tallies : List K
@@ -27,68 +36,71 @@ pub record State (K : Type 0) : Type 0 where
   pub fresh : ℕ
   pub freed : ℕ
 
+-- The state of these parts.
 abbrev pub state : {K : Type 0} → List Record → List K → ℕ → ℕ → ℕ → ℕ → ℕ → State K
 state recs ts N root live fresh freed =
     record { records = recs; tallies = ts; places = N; root = root; live = live; fresh = fresh; freed = freed }
 
--- The tree of a map with its places. An empty map has none.
-abbrev pub mapBare : {K : Type 0} → Option (PlacedPairs K) → Option (Tree K)
-mapBare none = none
-mapBare (some t) = some (treeIn t)
+-- The tree of a map without the places of its nodes; an empty map has none.
+abbrev pub mapTree : {K : Type 0} → Option (PlacedPairs K) → Option (Tree K)
+mapTree none = none
+mapTree (some t) = some (treeIn t)
 
--- 65535 is no node
+-- The place of the root, where 65535 is no node.
 abbrev pub rootOf : {K : Type 0} → Option (PlacedPairs K) → ℕ
 rootOf none = 65535
 rootOf (some t) = topPlace t
 
--- how often a place is a node's
-abbrev pub inNest : {K : Type 0} → ℕ → Option (PlacedPairs K) → ℕ
-inNest i none = 0
-inNest i (some t) = occurs i (nodesOf t)
+-- How often a place is that of a node.
+abbrev pub inTree : {K : Type 0} → ℕ → Option (PlacedPairs K) → ℕ
+inTree i none = 0
+inTree i (some t) = occurs i (nodesOf t)
 
--- how often a place is in a list
+-- How often a place is in a list.
 abbrev pub among : ℕ → List ℕ → ℕ
 among i [] = 0
 among i (p ∷ ps) = one i p + among i ps
 
--- once for a place that was not used yet
+-- Once for a place that was not used yet.
 abbrev pub unused : ℕ → ℕ → ℕ
 unused fresh i = cond {A = ℕ} (leb fresh i) 1 0
 
--- the freed places, each named by the record of the one before it
+-- The freed places, each named by the record of the one that was freed after it.
 abbrev pub Chain : List Record → ℕ → List ℕ → Type 0
 Chain recs head [] = head ≡ 65535
 Chain recs head (p ∷ ps) = (head ≡ p) × Chain recs (at recs p .first) ps
 
--- the tree lies in the records, and the entry of each node is the join of the tallies under it
-pub record Lain {K : Type 0} (join : K → K → K) (e : K) (recs : List Record) (ts : List K) (t : PlacedPairs K) : Type 0 where
+-- The tree lies in the records, each node with its rank, and the entry of each node is the join of the tallies under it.
+pub record LiesTallied {K : Type 0} (join : K → K → K) (e : K) (recs : List Record) (ts : List K) (t : PlacedPairs K) : Type 0 where
   pub kept : LiesIn recs (nodesOf t)
   pub right : RanksStand t
   pub totals : Totals join e ts (nodesOf t)
 
+-- A map without a tree asks nothing of the tables.
 abbrev pub Lies : {K : Type 0} → (K → K → K) → K → List Record → List K → Option (PlacedPairs K) → Type 0
 Lies join e recs ts none = Unit {0}
-Lies join e recs ts (some t) = Lain join e recs ts t
+Lies join e recs ts (some t) = LiesTallied join e recs ts t
 
--- The map holds the readings rs, in the order of their ranks.
+-- The map holds the readings rs, which are in rank order.
 pub record Stands {K : Type 0} (join : K → K → K) (e : K) (s : State K) (rs : List (Reading K)) : Type 0 where
   pub size : s .places ≡ min (min (length (s .records)) (length (s .tallies))) 65533
   pub valid : Valid rs
   pub ranked : Ranked rs
   pub count : s .live ≡ length rs
   -- the tree of the readings, each node at a place of its own
-  pub nest : Option (PlacedPairs K)
-  pub tree : mapBare nest ≡ treeOf rs
-  pub lies : Lies join e (s .records) (s .tallies) nest
-  pub top : s .root ≡ rootOf nest
+  pub placed : Option (PlacedPairs K)
+  pub tree : mapTree placed ≡ treeOf rs
+  pub lies : Lies join e (s .records) (s .tallies) placed
+  pub top : s .root ≡ rootOf placed
   -- each of the first places is a node's, or was freed, or was not used yet
   pub spare : List ℕ
   pub chain : Chain (s .records) (s .freed) spare
-  pub each : (i : ℕ) → i < s .places → inNest i nest + (among i spare + unused (s .fresh) i) ≡ 1
-  pub past : (i : ℕ) → s .places ≤ i → inNest i nest + among i spare ≡ 0
+  pub each : (i : ℕ) → i < s .places → inTree i placed + (among i spare + unused (s .fresh) i) ≡ 1
+  pub past : (i : ℕ) → s .places ≤ i → inTree i placed + among i spare ≡ 0
   pub used : mapNodes (treeOf rs) + length spare ≡ s .fresh
   pub fits : s .fresh ≤ s .places
 
+-- Whether the call was refused.
 abbrev pub refuses : Reply → Bool
 refuses (Ok n) = false
 refuses (Err f) = true
@@ -102,21 +114,23 @@ pub record Serves {K : Type 0} (join : K → K → K) (e : K) (s s′ : State K)
   pub tallies-past : (i : ℕ) (d : K) → s .places ≤ i → getD (s′ .tallies) i d ≡ getD (s .tallies) i d
   pub unchanged : refuses r ≡ true → s′ ≡ s
 
--- whatever calls came before
+-- Whatever calls came before, the call c leads from the state s to the state s′ and answers r as it should.
 abbrev pub Keeps : {K : Type 0} → (K → K → K) → K → State K → State K → Call K → Reply → Type 0
 Keeps {K} join e s s′ c r = (cs : List (Call K)) → Stands join e s (roll join (s .places) cs) → Serves join e s s′ c cs r
 
--- the next free place: the one freed last, or the first that was not used yet
+-- The next free place: the one freed last, or the first that was not used yet.
 abbrev pub takes : ℕ → ℕ → ℕ
 takes freed fresh = cond (eqb freed 65535) fresh freed
 
+-- The place freed last, after one is taken.
 abbrev pub freedAfter : List Record → ℕ → ℕ
 freedAfter recs freed = cond (eqb freed 65535) 65535 (at recs freed .first)
 
+-- How many places were ever used, after one is taken.
 abbrev pub freshAfter : ℕ → ℕ → ℕ
 freshAfter freed fresh = cond (eqb freed 65535) (min (fresh + 1) 65535) fresh
 
--- four places, taken one after the other
+-- Four places, taken one after the other.
 abbrev pub fourTaken : List Record → ℕ → ℕ → FourPlaces
 fourTaken recs freed fresh =
     let f1 : ℕ = freedAfter recs freed in
@@ -127,9 +141,11 @@ fourTaken recs freed fresh =
     let n3 : ℕ = freshAfter f2 n2 in
     record { shrink = takes freed fresh; split = takes f1 n1; reading = takes f2 n2; outer = takes f3 n3 }
 
+-- The place freed last, after four are taken.
 abbrev pub freedLast : List Record → ℕ → ℕ
 freedLast recs freed = freedAfter recs (freedAfter recs (freedAfter recs (freedAfter recs freed)))
 
+-- How many places were ever used, after four are taken.
 abbrev pub freshLast : List Record → ℕ → ℕ → ℕ
 freshLast recs freed fresh =
     let f1 : ℕ = freedAfter recs freed in
@@ -140,7 +156,7 @@ freshLast recs freed fresh =
     let n3 : ℕ = freshAfter f2 n2 in
     freshAfter f3 n3
 
--- both tables after the leaf at i has become a pair at the places n, and each pair up to the root is settled
+-- Both tables after the leaf at i has become a pair at the places n, and each pair up to the root is settled.
 abbrev pub grownTables : {K : Type 0} → (K → K → K) → K → ℕ → List Record → List K → ℕ → ℕ → ℕ → K → FourPlaces → Tables K
 grownTables join e N recs ts i k priority v n =
     let recs1 : List Record = planted recs i k priority n in
