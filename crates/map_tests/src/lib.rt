@@ -108,4 +108,42 @@ mod tests {
         check_eq(answer.expanded, 2)?;
         check_eq(map.height(), 2)
     }
+
+    #[test]
+    fn one_and_two_places_take_one_reading() -> Result<(), Fail> {
+        let mut one = [USED; 1];
+        let mut tallies = [Sum::of(0); 3];
+        let mut map = Map::open(&mut one, &mut tallies);
+        check_eq(map.enter(whole(7, 7)?, 0, Sum::of(1)), Ok(1))?;
+        check_eq(map.enter(whole(8, 8)?, 0, Sum::of(1)), Err(MapFault::Full))?;
+        let mut two = [USED; 2];
+        let mut map = Map::open(&mut two, &mut tallies);
+        check_eq(map.enter(whole(7, 7)?, 0, Sum::of(1)), Ok(1))?;
+        check_eq(map.enter(whole(8, 8)?, 0, Sum::of(1)), Err(MapFault::Full))?;
+        check_eq(map.strike(Place { motor: 7, root: 7 }), Ok(0))?;
+        check_eq(map.enter(whole(7, 7)?, 0, Sum::of(1)), Ok(1))
+    }
+
+    #[test]
+    fn equal_priorities_and_a_struck_place_again() -> Result<(), Fail> {
+        let mut records = [USED; 13];
+        let mut tallies = [Sum::of(0); 13];
+        let mut map = Map::open(&mut records, &mut tallies);
+        check_eq(
+            map.enter(whole(65535, 65535)?, 4294967295, Sum::of(1)),
+            Ok(1),
+        )?;
+        check_eq(map.enter(whole(0, 0)?, 0, Sum::of(2)), Ok(2))?;
+        check_eq(map.enter(whole(5, 5)?, 0, Sum::of(4)), Ok(3))?;
+        check_eq(map.strike(Place { motor: 0, root: 0 }), Ok(2))?;
+        check_eq(map.enter(whole(0, 0)?, 0, Sum::of(8)), Ok(3))?;
+        let Ok(disc) = Disc::new(Place { motor: 0, root: 0 }, 8, 8) else {
+            return Err(Fail::new("a disc"));
+        };
+        check_eq(map.tally(&disc).tally.value(), 12)?;
+        check_eq(
+            map.again(Place { motor: 1, root: 0 }, Sum::of(1)),
+            Err(MapFault::Absent),
+        )
+    }
 }
