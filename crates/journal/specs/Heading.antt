@@ -2,6 +2,10 @@
 --   longest        how many bytes a journal may have
 --   mark           the three letters that it begins with
 --   version        the two bytes after them
+--   Lacks          bytes that do not begin with given ones
+--   Headed         bytes with the right heading
+--   Unmarked       bytes without the mark
+--   OtherVersion   bytes with the mark and without the version
 --   Heads          the bytes after mark and version, or a fault
 --   OneHeading     bytes have one answer only
 use mathlib.Core.Path.{_≡_}

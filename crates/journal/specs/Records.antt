@@ -3,6 +3,7 @@
 --   Reads          a record, by all of its bytes
 --   Unknown        bytes that begin with no letter of a record
 --   Cut            bytes that end within a record
+--   Explains       the fault of bytes that begin with no record
 --   Decodes        the record that bytes begin with and the bytes after it, or a fault
 --   OneDecoding    bytes have one answer only
 --   DecodesBack    what spells a record is read as that record

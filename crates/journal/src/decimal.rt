@@ -18,7 +18,7 @@ fn put_digits(room: &mut [u8], at: usize, n: u64) -> usize
 }
 
 /// Writes a number of 32 bits, which has at most ten digits.
-pub fn put_number(room: &mut [u8], at: usize, n: u32) -> usize
+pub(crate) fn put_number(room: &mut [u8], at: usize, n: u32) -> usize
     requires { ⌜ at + 10 ≤ length (now room) ⌝ }
     ensures value { λ r. ⌜ Adds (now (room .entry)) at (now (room .exit)) r (decimal n) ⌝ }
     ensures bounded { λ r. ⌜ r ≤ at + 10 ⌝ }
@@ -27,7 +27,7 @@ pub fn put_number(room: &mut [u8], at: usize, n: u32) -> usize
 }
 
 /// Writes a number of 64 bits, which has at most twenty digits.
-pub fn put_long_number(room: &mut [u8], at: usize, n: u64) -> usize
+pub(crate) fn put_long_number(room: &mut [u8], at: usize, n: u64) -> usize
     requires { ⌜ at + 20 ≤ length (now room) ⌝ }
     ensures value { λ r. ⌜ Adds (now (room .entry)) at (now (room .exit)) r (decimal n) ⌝ }
     ensures bounded { λ r. ⌜ r ≤ at + 20 ⌝ }

@@ -7,7 +7,7 @@ ghost use Rattle.std.specs.Options.{Cases as BySome};
 ghost use Rattle.journal.specs.Layout.{be16, be32};
 
 /// The number of 16 bits that the bytes begin with, and the bytes after it.
-pub fn front16(bytes: &[u8]) -> Option<(u16, &[u8])>
+pub(crate) fn front16(bytes: &[u8]) -> Option<(u16, &[u8])>
     ensures value { λ r. ⌜ BySome r (length (now (bytes .entry)) < 2) (λ x. now (bytes .entry) ≡ be16 (x .0) ++ now (x .1)) ⌝ }
     ensures left { λ r. ⌜ BySome r (length (now (bytes .entry)) < 2) (λ x. length (now (bytes .entry)) ≡ length (now (x .1)) + 2) ⌝ }
 {
@@ -18,7 +18,7 @@ pub fn front16(bytes: &[u8]) -> Option<(u16, &[u8])>
 }
 
 /// The number of 32 bits that the bytes begin with, and the bytes after it.
-pub fn front32(bytes: &[u8]) -> Option<(u32, &[u8])>
+pub(crate) fn front32(bytes: &[u8]) -> Option<(u32, &[u8])>
     ensures value { λ r. ⌜ BySome r (length (now (bytes .entry)) < 4) (λ x. now (bytes .entry) ≡ be32 (x .0) ++ now (x .1)) ⌝ }
     ensures left { λ r. ⌜ BySome r (length (now (bytes .entry)) < 4) (λ x. length (now (bytes .entry)) ≡ length (now (x .1)) + 4) ⌝ }
 {
@@ -32,7 +32,7 @@ pub fn front32(bytes: &[u8]) -> Option<(u32, &[u8])>
 }
 
 /// The two numbers of 16 bits that the bytes begin with, and the bytes after them.
-pub fn pair16(bytes: &[u8]) -> Option<(u16, u16, &[u8])>
+pub(crate) fn pair16(bytes: &[u8]) -> Option<(u16, u16, &[u8])>
     ensures value { λ r. ⌜ BySome r (length (now (bytes .entry)) < 4) (λ x. now (bytes .entry) ≡ be16 (x .0) ++ (be16 (x .1) ++ now (x .2))) ⌝ }
     ensures left { λ r. ⌜ BySome r (length (now (bytes .entry)) < 4) (λ x. length (now (bytes .entry)) ≡ length (now (x .2)) + 4) ⌝ }
 {
@@ -42,7 +42,7 @@ pub fn pair16(bytes: &[u8]) -> Option<(u16, u16, &[u8])>
 }
 
 /// The two numbers of 32 bits that the bytes begin with, and the bytes after them.
-pub fn pair32(bytes: &[u8]) -> Option<(u32, u32, &[u8])>
+pub(crate) fn pair32(bytes: &[u8]) -> Option<(u32, u32, &[u8])>
     ensures value { λ r. ⌜ BySome r (length (now (bytes .entry)) < 8) (λ x. now (bytes .entry) ≡ be32 (x .0) ++ (be32 (x .1) ++ now (x .2))) ⌝ }
     ensures left { λ r. ⌜ BySome r (length (now (bytes .entry)) < 8) (λ x. length (now (bytes .entry)) ≡ length (now (x .2)) + 8) ⌝ }
 {

@@ -1,7 +1,6 @@
 //! The lines that are printed, one for each record.
 ghost use mathlib.Core.List.{_++_};
 ghost use Prim.Native.Nat.{_+_, _≤_};
-ghost use lib.Chars.{codes};
 ghost use lib.ListN.{length};
 ghost use Rattle.std.specs.Written.{decimal};
 ghost use Rattle.journal.specs.Lines.{blank, timesText, told, printed};

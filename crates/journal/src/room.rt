@@ -5,7 +5,7 @@ ghost use lib.ListN.{length};
 ghost use Rattle.journal.specs.Room.{Adds};
 
 /// Writes one byte. It answers the place after it, as every call here does.
-pub fn put(room: &mut [u8], at: usize, byte: u8) -> usize
+pub(crate) fn put(room: &mut [u8], at: usize, byte: u8) -> usize
     requires { ⌜ at < length (now room) ⌝ }
     ensures value { λ r. ⌜ Adds (now (room .entry)) at (now (room .exit)) r (byte ∷ []) ⌝ }
 {
@@ -14,7 +14,7 @@ pub fn put(room: &mut [u8], at: usize, byte: u8) -> usize
 }
 
 /// Writes bytes in their order.
-pub fn put_word(room: &mut [u8], at: usize, word: &[u8]) -> usize
+pub(crate) fn put_word(room: &mut [u8], at: usize, word: &[u8]) -> usize
     requires { ⌜ at + length (now word) ≤ length (now room) ⌝ }
     ensures value { λ r. ⌜ Adds (now (room .entry)) at (now (room .exit)) r (now (word .entry)) ⌝ }
 {
