@@ -3,6 +3,7 @@ ghost use mathlib.Core.Path.{_≡_};
 ghost use Rattle.quadtreap.specs.Walk.{answer};
 ghost use Rattle.map.specs.Maps.{stateOf, Lends};
 ghost use Rattle.shape.specs.Shapes.{discInner, discOuter};
+ghost use Rattle.tables.specs.Heights.{Heights};
 ghost use Rattle.tables.specs.Tallies.{Answers, SameAnswers, DiscEffort};
 use crate::Map;
 use crate::tallies::Tallied;
@@ -28,6 +29,9 @@ pub fn compare<'a, 'b, K: Tally, S: Shape>(
     second: &mut Map<'b, K>,
     shape: &S,
 ) -> Compared<K>
+    ensures first_answers { λ r. ⌜ Answers (K·Tally .joined) (K·Tally .neutral) (S·Shape .inner (now (shape .entry))) (S·Shape .outer (now (shape .entry))) (stateOf (now (first .entry))) (answer (r .first .tally) (r .first .expanded)) ⌝ }
+    ensures second_answers { λ r. ⌜ Answers (K·Tally .joined) (K·Tally .neutral) (S·Shape .inner (now (shape .entry))) (S·Shape .outer (now (shape .entry))) (stateOf (now (second .entry))) (answer (r .second .tally) (r .second .expanded)) ⌝ }
+    ensures heights { λ r. ⌜ Heights (K·Tally .joined) (K·Tally .neutral) (stateOf (now (first .entry))) (r .«first_height») × Heights (K·Tally .joined) (K·Tally .neutral) (stateOf (now (second .entry))) (r .«second_height») ⌝ }
     ensures same_readings { λ r. ⌜ SameAnswers (K·Tally .joined) (K·Tally .neutral) (stateOf (now (first .entry))) (stateOf (now (second .entry))) (answer (r .first .tally) (r .first .expanded)) (answer (r .second .tally) (r .second .expanded)) (r .«first_height») (r .«second_height») ⌝ }
     ensures same { λ _. ⌜ (stateOf (now (first .exit)) ≡ stateOf (now (first .entry))) × (stateOf (now (second .exit)) ≡ stateOf (now (second .entry))) ⌝ }
     ensures lends { λ _. ⌜ Lends (now (first .entry)) (now (first .exit)) × Lends (now (second .entry)) (now (second .exit)) ⌝ }
