@@ -1,4 +1,6 @@
 //! How regions of places lie to a shape, and how many boxes cross one. Definitions and theorems only.
+#![tactic(auto)]
+
 ghost use Rattle.crossing.specs.Laws.{MissesMeans, HeldMeans, CrossesMeans, DiscMisses, DiscHolds, DiscCrossings};
 
 /// What the three tests of a region mean, in places.

@@ -1,11 +1,11 @@
 -- The worked figures: one list, and what each of its entries states of the definitions.
---   Figure, disc_walk, Follows   a figure, the walk of a disc, and what a figure states
---   reading, P, Q, S            readings by their places, priorities and sums
---   figures                     the list
-use Rattle.std.specs.Prelude.{◌≡◌, ℕ, List, [], ◌∷◌}
+--   Figure, Follows     a figure, and what it states
+--   reading, P, Q, S    readings by their places, priorities and sums
+--   figures             the list
+use Rattle.std.specs.Prelude.{◌≡◌, ℕ, ◌%◌, ◌^◌, List, [], ◌∷◌}
 use Rattle.place.specs.Codes.{code_of}
 use Rattle.place.specs.Boxes.{smallest, point, motor_side, root_side}
-use Rattle.tally.specs.Sums.{zero_sum, sum_of, sum_joined}
+use Rattle.tally.specs.Sums.{zero_sum, sum_joined, remainder_fits}
 use Rattle.tally.specs.declared.sum.Sum.{Sum}
 use Rattle.crossing.specs.Discs.{within, crossing_sum}
 use Rattle.quadtreap.specs.Tree.{Reading, map_nodes, map_height}
@@ -35,17 +35,17 @@ Follows (disc rs m n r R t e) = ((disc_walk rs m n r R).tally.value ≡ t) × ((
 
 -- The reading at a place with a priority and a sum.
 abbrev pub reading : ℕ → ℕ → ℕ → ℕ → Reading Sum
-reading m r p v = record { code = code_of m r; priority = p; tally = sum_of v }
+reading m r p v = record { code = code_of m r; priority = p; tally = record { value = v % 2 ^ 64; fits = remainder_fits v } }
 
--- The reading at (0, 0), with priority 10 and sum 1.
+-- The reading at (0, 0).
 abbrev pub P : Reading Sum
 P = reading 0 0 10 1
 
--- The reading at (3, 0), with priority 20 and sum 2.
+-- The reading at (3, 0).
 abbrev pub Q : Reading Sum
 Q = reading 3 0 20 2
 
--- The reading at (40000, 0), with a priority and sum 4.
+-- The reading at (40000, 0), with a priority.
 abbrev pub S : ℕ → Reading Sum
 S p = reading 40000 0 p 4
 

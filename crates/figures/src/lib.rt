@@ -1,4 +1,6 @@
 //! The worked figures, each of which follows from the definitions.
+#![tactic(auto)]
+
 ghost use Rattle.std.specs.List.{AllByRecursion as All};
 ghost use Rattle.figures.specs.Figures.{Follows, figures};
 

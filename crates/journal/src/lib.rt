@@ -1,4 +1,6 @@
 //! The bytes of a journal and the lines that are printed of it.
+#![tactic(auto)]
+
 mod decimal;
 mod decoding;
 mod encoding;

@@ -1,4 +1,5 @@
 //! Tests of the map by its public calls.
+#![tactic(auto)]
 
 #[cfg(test)]
 mod tests {

@@ -1,5 +1,6 @@
 //! The nodes of a tree in a lent table of records: the way down to a leaf, a new pair, promotions, the steps of a rise
 //! and of a strike, and the free places.
+#![tactic(auto)]
 
 mod descent;
 mod free;

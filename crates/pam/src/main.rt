@@ -1,4 +1,6 @@
 //! Replays the journal on standard input and prints a line for each of its records.
+#![tactic(auto)]
+
 use std::io::{Read, Write};
 
 /// One byte more than a journal may have, so that a longer one is seen to be too long and is not read on.

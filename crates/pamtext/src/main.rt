@@ -1,4 +1,5 @@
 //! Writes on standard output the journal whose records standard input has as text.
+#![tactic(auto)]
 
 mod fault;
 mod fields;

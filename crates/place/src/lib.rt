@@ -1,4 +1,5 @@
 //! Places, their codes, the boxes that codes share, and rectangles of places.
+#![tactic(auto)]
 
 mod boxes;
 mod place;

@@ -1,4 +1,6 @@
 //! The tree of a map of readings: its definition, six theorems, and the laws that tables and maps are proved by. Definitions and theorems only.
+#![tactic(auto)]
+
 ghost use Rattle.quadtreap.specs.Theorems.{LayoutIsInsertion, NodeCount, EnterGivesTree, StrikeGivesTree, CountsEachOnce, EffortIsBounded, SameReadings, SameSet};
 ghost use Rattle.quadtreap.specs.Laws.{StaysPaired, Kept, Settled, Risen, GoesOn, IsDone, Relabels, StaysRanked, SortsByRank, Finds, Carried, Totals, StepByStep, SameTests};
 

@@ -1,10 +1,5 @@
 -- What a half reading becomes when the root is read.
---   numbers_of, numbers_with    the plain numbers of a reading
---   time_fault                 the fault of two times
---   Made, Refused, Completes  a half reading completed, or refused
---   OneAnswer                 completing has one answer only
-use Rattle.std.specs.Prelude.{◌≡◌, ℕ, ◌+◌, cond, Ok, Err, Result, nat_lt}
-use Rattle.std.proofs.Math.Option.{Option, none, some}
+use Rattle.std.specs.Prelude.{◌≡◌, ℕ, ◌+◌, ◌<◌, ◌≤◌, Ok, Err, Result}
 use Rattle.reading.specs.Limit.{longest}
 use Rattle.reading.specs.declared.counts.Counts.{Counts}
 use Rattle.reading.specs.declared.fault.ReadingFault.{ReadingFault}
@@ -20,19 +15,25 @@ numbers_of w = record { motor = w.motor; root = w.root; motor_time = w.motor_tim
 abbrev pub numbers_with : HalfReading → ℕ → ℕ → Counts
 numbers_with h root time = record { motor = h.motor; root = root; motor_time = h.time; root_time = time }
 
--- The fault of the two times, if there is one: the root's time precedes the motor's, or else it follows it by more than the longest delay.
-abbrev pub time_fault : ℕ → ℕ → Option ReadingFault
-time_fault motorTime rootTime = cond (nat_lt rootTime motorTime) (some Early) (cond (nat_lt (motorTime + longest) rootTime) (some Late) none)
+-- The root's time neither precedes the motor's nor follows it by more than the longest delay.
+pub record InTime (motorTime rootTime : ℕ) : Type 0 where
+  pub order : motorTime ≤ rootTime
+  pub soon : rootTime ≤ motorTime + longest
 
--- A whole reading is made where the times have no fault, and holds exactly the numbers that were read.
+-- A fault explains a refusal where the two times are wrong in the way that it names.
+abbrev pub Explains : ReadingFault → ℕ → ℕ → Type 0
+Explains Early motorTime rootTime = rootTime < motorTime
+Explains Late motorTime rootTime = motorTime + longest < rootTime
+
+-- A whole reading is made where the times agree, and holds exactly the numbers that were read.
 pub record Made (h : HalfReading) (root time : ℕ) (w : WholeReading) : Type 0 where
-  pub timely : time_fault h.time time ≡ none
+  pub timely : InTime h.time time
   pub numbers : numbers_of w ≡ numbers_with h root time
 
--- A refused half reading comes back as it was, with the fault of the times.
+-- A refused half reading comes back as it was, with the fault that explains why.
 pub record Refused (h : HalfReading) (time : ℕ) (back : HalfReading) (fault : ReadingFault) : Type 0 where
   pub same : back ≡ h
-  pub reason : time_fault h.time time ≡ some fault
+  pub reason : Explains fault h.time time
 
 -- Completing a half reading makes the whole one or refuses it.
 abbrev pub Completes : HalfReading → ℕ → ℕ → Result WholeReading (HalfReading × ReadingFault) → Type 0

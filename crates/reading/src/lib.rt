@@ -1,4 +1,6 @@
 //! Readings are taken in two halves, the motor first and then the root, so that neither is kept without the other.
+#![tactic(auto)]
+
 mod counts;
 mod fault;
 mod whole;

@@ -8,10 +8,8 @@
 --   Stepped, Steps                 what a step promises after some calls, and after any calls
 use Rattle.std.specs.Prelude.{◌≡◌, ℕ, ◌*◌, ◌≤◌, Bool, true, false, cond, List, Ok, Err, Result}
 use Rattle.std.proofs.Math.Option.{Option, none, some}
-use Rattle.reading.specs.Readings.{time_fault}
 use Rattle.reading.specs.declared.fault.ReadingFault.{ReadingFault}
 use Rattle.reading.specs.declared.whole.WholeReading.{WholeReading}
-use Rattle.shape.specs.Faults.{disc_fault, band_fault}
 use Rattle.shape.specs.Shapes.{widened}
 use Rattle.place.specs.Boxes.{between}
 use Rattle.crossing.specs.Regions.{Places}
@@ -29,6 +27,7 @@ use Rattle.journal.specs.declared.report.Report.TheVariants.{Ok as Changed, Tall
 use Rattle.replay.specs.declared.fault.StepFault.{StepFault}
 use Rattle.replay.specs.declared.fault.StepFault.TheVariants.{Reading as OfReading, Shape as OfShape, Map as OfMap}
 use Rattle.tally.specs.Spans.{times_in}
+use Rattle.replay.specs.Faults.{time_fault, disc_fault, band_fault}
 use Rattle.replay.specs.Weights.{Weighed, joined, neutral, weighed}
 
 -- The reading has the counts that were read and there is no fault of its times, or the fault is that of its times.

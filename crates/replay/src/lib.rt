@@ -1,4 +1,6 @@
 //! A journal replayed on a map: each record served, and the line that is printed of it.
+#![tactic(auto)]
+
 mod fault;
 mod faults;
 mod lines;

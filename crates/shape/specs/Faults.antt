@@ -1,9 +1,7 @@
 -- Why a shape is refused.
---   fault_number            the number of each refusal
---   largest_radius          how large the outer radius of a disc may be
---   disc_fault, band_fault   the fault of the numbers of a disc and of a band
-use Rattle.std.specs.Prelude.{ℕ, cond, nat_lt}
-use Rattle.std.proofs.Math.Option.{Option, none, some}
+--   fault_number              the number of each refusal
+--   DiscRefused, BandRefused when each refusal is answered
+use Rattle.std.specs.Prelude.{ℕ, ◌<◌, ◌≤◌}
 use Rattle.shape.specs.declared.fault.ShapeFault.{ShapeFault}
 use Rattle.shape.specs.declared.fault.ShapeFault.TheVariants.{OuterRadiusTooLarge, InnerRadiusAboveOuter, MotorEndsReversed, RootEndsReversed}
 
@@ -14,14 +12,16 @@ fault_number InnerRadiusAboveOuter = 4
 fault_number MotorEndsReversed = 5
 fault_number RootEndsReversed = 6
 
--- How large the outer radius of a disc may be.
-abbrev pub largest_radius : ℕ
-largest_radius = 100000
+-- When a disc with the inner radius r and the outer radius R is refused, and why.
+abbrev pub DiscRefused : ℕ → ℕ → ShapeFault → Type 0
+DiscRefused r R OuterRadiusTooLarge = 100000 < R
+DiscRefused r R InnerRadiusAboveOuter = (R ≤ 100000) × (R < r)
+DiscRefused r R MotorEndsReversed = ⊥
+DiscRefused r R RootEndsReversed = ⊥
 
--- The fault of the radii of a disc, if there is one: the outer radius R is too large, or else the inner radius r is above it.
-abbrev pub disc_fault : ℕ → ℕ → Option ShapeFault
-disc_fault r R = cond (nat_lt largest_radius R) (some OuterRadiusTooLarge) (cond (nat_lt R r) (some InnerRadiusAboveOuter) none)
-
--- The fault of the ends of a band, if there is one: its lowest motor count is above its highest, or else its lowest root count.
-abbrev pub band_fault : ℕ → ℕ → ℕ → ℕ → Option ShapeFault
-band_fault lm hm lr hr = cond (nat_lt hm lm) (some MotorEndsReversed) (cond (nat_lt hr lr) (some RootEndsReversed) none)
+-- When a band with the given ends is refused, and why.
+abbrev pub BandRefused : ℕ → ℕ → ℕ → ℕ → ShapeFault → Type 0
+BandRefused lm hm lr hr OuterRadiusTooLarge = ⊥
+BandRefused lm hm lr hr InnerRadiusAboveOuter = ⊥
+BandRefused lm hm lr hr MotorEndsReversed = hm < lm
+BandRefused lm hm lr hr RootEndsReversed = (lm ≤ hm) × (hr < lr)

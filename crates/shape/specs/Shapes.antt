@@ -1,8 +1,8 @@
 -- The two sets of places that a disc and a band mean, and how they are made.
 --   disc_inner, disc_outer, DiscMade   a disc
---   band_inner, widened, band_outer, BandMade   a band
+--   band_inner, band_outer, BandMade   a band
+--   widened                            a rectangle widened by a margin
 use Rattle.std.specs.Prelude.{◌≡◌, ℕ, ◌+◌, ◌-◌, min, Ok, Err, Result}
-use Rattle.std.proofs.Math.Option.{none, some}
 use Rattle.place.specs.Boxes.{between}
 use Rattle.place.specs.Values.{in_rectangle}
 use Rattle.place.specs.declared.place.Place.{Place}
@@ -11,7 +11,7 @@ use Rattle.crossing.specs.Discs.{within}
 use Rattle.shape.specs.declared.disc.Disc.{Disc}
 use Rattle.shape.specs.declared.band.Band.{Band}
 use Rattle.shape.specs.declared.fault.ShapeFault.{ShapeFault}
-use Rattle.shape.specs.Faults.{disc_fault, band_fault}
+use Rattle.shape.specs.Faults.{DiscRefused, BandRefused}
 
 -- The inner set of a disc: the places at most its inner radius from the centre.
 abbrev pub disc_inner : Disc → Places
@@ -21,10 +21,10 @@ disc_inner d = within d.centre.motor d.centre.root d.inner_radius
 abbrev pub disc_outer : Disc → Places
 disc_outer d = within d.centre.motor d.centre.root d.outer_radius
 
--- The disc with the centre and the radii that were given, or the fault of its numbers.
+-- The disc with the centre and the radii that were given, or why there is none.
 abbrev pub DiscMade : Place → ℕ → ℕ → Result Disc ShapeFault → Type 0
-DiscMade centre r R (Ok d) = (disc_fault r R ≡ none) × (d.centre ≡ centre) × (d.inner_radius ≡ r) × (d.outer_radius ≡ R)
-DiscMade centre r R (Err f) = disc_fault r R ≡ some f
+DiscMade centre r R (Ok d) = (d.centre ≡ centre) × (d.inner_radius ≡ r) × (d.outer_radius ≡ R)
+DiscMade centre r R (Err f) = DiscRefused r R f
 
 -- The inner set of a band: its rectangle.
 abbrev pub band_inner : Band → Places
@@ -34,14 +34,15 @@ band_inner b = in_rectangle b.rectangle
 abbrev pub widened : ℕ → ℕ → ℕ → ℕ → ℕ → Places
 widened lm hm lr hr margin = between (lm - margin) (min (hm + margin) 65535) (lr - margin) (min (hr + margin) 65535)
 
--- The outer set of a band: its rectangle widened by the margin.
+-- The outer set of a band: its rectangle widened by the margin on each side, stopping at 0 and 65535.
 abbrev pub band_outer : Band → Places
 band_outer b =
-    widened b.rectangle.lowest_motor b.rectangle.highest_motor b.rectangle.lowest_root b.rectangle.highest_root b.margin
+    between (b.rectangle.lowest_motor - b.margin) (min (b.rectangle.highest_motor + b.margin) 65535)
+    (b.rectangle.lowest_root - b.margin) (min (b.rectangle.highest_root + b.margin) 65535)
 
--- The band with the ends and the margin that were given, or the fault of its numbers.
+-- The band with the ends and the margin that were given, or why there is none.
 abbrev pub BandMade : ℕ → ℕ → ℕ → ℕ → ℕ → Result Band ShapeFault → Type 0
 BandMade lm hm lr hr margin (Ok b) =
-    (band_fault lm hm lr hr ≡ none) × (b.rectangle.lowest_motor ≡ lm) × (b.rectangle.highest_motor ≡ hm) × (b.rectangle.lowest_root ≡ lr)
+    (b.rectangle.lowest_motor ≡ lm) × (b.rectangle.highest_motor ≡ hm) × (b.rectangle.lowest_root ≡ lr)
     × (b.rectangle.highest_root ≡ hr) × (b.margin ≡ margin)
-BandMade lm hm lr hr margin (Err f) = band_fault lm hm lr hr ≡ some f
+BandMade lm hm lr hr margin (Err f) = BandRefused lm hm lr hr f

@@ -1,6 +1,5 @@
 //! The disc value, apart from its calls, since its invariant may cite no definition that names it.
 ghost use Rattle.std.specs.Prelude.{◌≤◌};
-ghost use Rattle.shape.specs.Faults.{largest_radius};
 
 use place::Place;
 
@@ -11,5 +10,5 @@ pub struct Disc {
     pub inner_radius: u32,
     pub outer_radius: u32,
     ghost nested: { inner_radius ≤ outer_radius },
-    ghost limit: { outer_radius ≤ largest_radius },
+    ghost limit: { outer_radius ≤ 100000 },
 }

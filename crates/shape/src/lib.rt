@@ -1,4 +1,5 @@
 //! Shapes: an inner and an outer set of places, and exact tests of rectangles and places against them.
+#![tactic(auto)]
 
 mod band;
 mod bands;

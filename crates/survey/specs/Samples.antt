@@ -2,15 +2,14 @@
 --   Spells, Sampled   four words read as a sample
 --   Surveyed          a sample completed, with its place, code, lag and delay, or refused
 use Rattle.std.specs.Prelude.{◌≡◌, ℕ, ◌+◌, ◌^◌, ◌<◌, List, pos, ◌-ℤ◌, Some, None, Ok, Err, Option, Result}
-use Rattle.std.proofs.Math.Option.{none, some}
 use Rattle.std.specs.Str.Parse.{IsNumeral, digits_value, without_leading_plus}
 use Rattle.place.specs.Codes.{code_of}
-use Rattle.reading.specs.Readings.{time_fault}
+use Rattle.reading.specs.Readings.{InTime, Explains}
 use Rattle.reading.specs.declared.fault.ReadingFault.{ReadingFault}
 use Rattle.survey.specs.declared.sample.Sample.{Sample}
 use Rattle.survey.specs.declared.sample.Accepted.{Accepted}
 
--- The word spells in decimal, after a `+` or none, a number of k bits.
+-- The word spells, in decimal, a number of k bits.
 abbrev pub Spells : ℕ → List ℕ → Type 0
 Spells k word = IsNumeral 10 (without_leading_plus word) × (digits_value 10 (without_leading_plus word) < 2 ^ k)
 
@@ -22,10 +21,10 @@ Sampled a b c d (Some s) =
     × Spells 16 a × Spells 32 b × Spells 16 c × Spells 32 d
 Sampled a b c d None = Spells 16 a → Spells 32 b → Spells 16 c → Spells 32 d → ⊥
 
--- A sample in time is accepted with its place, code, lag and delay; any other is refused with the fault of its times.
+-- A sample in time is accepted with its place, code, lag and delay; any other is refused with the fault that explains it.
 abbrev pub Surveyed : Sample → Result Accepted ReadingFault → Type 0
 Surveyed s (Ok a) =
-    (time_fault s.motor_time s.root_time ≡ none)
+    InTime s.motor_time s.root_time
     × (a.place.motor ≡ s.motor) × (a.place.root ≡ s.root) × (a.code ≡ code_of s.motor s.root)
     × (a.lag ≡ pos s.root -ℤ pos s.motor) × (s.motor_time + a.delay ≡ s.root_time)
-Surveyed s (Err f) = time_fault s.motor_time s.root_time ≡ some f
+Surveyed s (Err f) = Explains f s.motor_time s.root_time

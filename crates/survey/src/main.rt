@@ -1,4 +1,5 @@
 //! Follows the readings of a blade from its two sensors to places, codes and the box that holds them all.
+#![tactic(auto)]
 
 mod enclosing;
 mod sample;

@@ -4,7 +4,7 @@ use Rattle.quadtreap.specs.Tree.{map_height}
 use Rattle.records.specs.Heights.{Heights as NodeHeights}
 use Rattle.tables.specs.Heights.{Heights}
 use Rattle.tables.specs.Stands.{State, map_tree}
-use Rattle.tables.proofs.FoundLeafLaws.{none_of, held, held_tree, held_lain, held_top, held_few}
+use Rattle.tables.proofs.Finds.{none_of, held, held_tree, held_lain, held_top, held_few}
 
 module _ {K : Type 0} (join : K → K → K) (e : K) (s : State K) where
   pub height_empty : s.root ≡ 65535 → Heights join e s 0

@@ -14,7 +14,7 @@ use Rattle.records.specs.StrikeMoves.{StrikeMove, replaced_at, Pair, whole, made
 use Rattle.tables.specs.Totals.{Has, Totals}
 use Rattle.records.proofs.StrikeLaws.{Keeps, Next}
 use Rattle.records.proofs.MoveCases.{by_cases}
-use Rattle.tables.proofs.RenewLaws.{Beside}
+use Rattle.tables.proofs.Climbs.{Beside}
 
 module _ {K : Type 0} (join : K → K → K) (e : K) (ts : List K) (k : ℕ) where
   -- The entries under the root. That of the split node may be stale only where the struck reading is the first of the right child, since the way then goes through it.

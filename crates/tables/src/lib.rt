@@ -1,4 +1,5 @@
 //! What the two tables of a map hold: calls, the roll, the states that calls lead to, and the walk. Definitions and theorems only.
+#![tactic(auto)]
 
 mod fault;
 mod faults;

@@ -1,4 +1,6 @@
 //! Kinds of tally: values that may be joined in any order and in any grouping.
+#![tactic(auto)]
+
 mod kind;
 mod pair;
 mod span;

@@ -5,4 +5,4 @@ use Rattle.journal.proofs.Fronts.{next}
 use Rattle.journal.proofs.decoding.again.Goals as goal
 
 pub returns : goal.returns
-returns c = record { value = record { kind = refl; bytes = (next (be16 c.in-ok-motor.motor ++ be16 c.in-ok-motor.root) c.in-ok-motor.ensures.value c.in-ok-time.ensures.value); fits = search rules } }
+returns c = record { value = record { kind = refl; bytes = (next (be16 c.in_ok-motor.motor ++ be16 c.in_ok-motor.root) c.in_ok-motor.ensures.value c.in_ok-time.ensures.value); fits = search rules } }

@@ -5,4 +5,4 @@ use Rattle.journal.proofs.Fronts.{next}
 use Rattle.journal.proofs.decoding.band.Goals as goal
 
 pub returns : goal.returns
-returns c = record { value = record { kind = refl; bytes = (next (be16 c.in-ok-lowest-motor.lowest-motor ++ be16 c.in-ok-lowest-motor.highest-motor) c.in-ok-lowest-motor.ensures.value (next (be16 c.in-ok-lowest-root.lowest-root ++ be16 c.in-ok-lowest-root.highest-root) c.in-ok-lowest-root.ensures.value c.in-ok-margin.ensures.value)); fits = search rules } }
+returns c = record { value = record { kind = refl; bytes = (next (be16 c.in_ok-lowest_motor.lowest_motor ++ be16 c.in_ok-lowest_motor.highest_motor) c.in_ok-lowest_motor.ensures.value (next (be16 c.in_ok-lowest_root.lowest_root ++ be16 c.in_ok-lowest_root.highest_root) c.in_ok-lowest_root.ensures.value c.in_ok-margin.ensures.value)); fits = search rules } }

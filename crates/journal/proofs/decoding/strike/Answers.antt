@@ -3,4 +3,4 @@ use Rattle.std.proofs.Common.{refl, rules}
 use Rattle.journal.proofs.decoding.strike.Goals as goal
 
 pub returns : goal.returns
-returns c = record { value = record { kind = refl; bytes = c.in-ok-motor.ensures.value; fits = search rules } }
+returns c = record { value = record { kind = refl; bytes = c.in_ok-motor.ensures.value; fits = search rules } }

@@ -5,6 +5,6 @@ use Rattle.journal.proofs.front.front16.Goals as goal
 
 pub returns : goal.returns
 returns c = record {
-  value = begins16 c.args.bytes.now c.from-be-bytes.result (search rules) (search rules) (search rules) c.from-be-bytes.ensures;
+  value = begins16 c.args.bytes.now c.from_be_bytes.result (search rules) (search rules) (search rules) c.from_be_bytes.ensures;
   left = search rules;
 }

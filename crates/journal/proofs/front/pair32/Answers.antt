@@ -6,6 +6,6 @@ use Rattle.journal.proofs.front.pair32.Goals as goal
 
 pub returns : goal.returns
 returns c = record {
-  value = next (be32 c.in-ok-first.first) c.in-ok-first.ensures.value c.in-ok-second.ensures.value;
+  value = next (be32 c.in_ok-first.first) c.in_ok-first.ensures.value c.in_ok-second.ensures.value;
   left = search rules;
 }

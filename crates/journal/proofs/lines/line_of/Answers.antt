@@ -8,15 +8,15 @@ returns c =
     let short : c.put-len.result ≤ 96 =
     omega (
       arith,
-      c.put-number-at.ensures.bounded,
+      c.put_number-at.ensures.bounded,
       c.put-at.ensures.value.place,
-      c.put-told-at.ensures.bounded,
+      c.put_told-at.ensures.bounded,
       c.put-len.ensures.value.place,
     ) in
     record {
       value =
           holds 96 short
-          (adds_both c.put-number-at.ensures.value
+          (adds_both c.put_number-at.ensures.value
           (adds_both c.put-at.ensures.value
-          (adds_both c.put-told-at.ensures.value c.put-len.ensures.value)));
+          (adds_both c.put_told-at.ensures.value c.put-len.ensures.value)));
     }

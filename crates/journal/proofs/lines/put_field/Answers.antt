@@ -5,6 +5,6 @@ use Rattle.journal.proofs.lines.put_field.Goals as goal
 
 pub returns : goal.returns
 returns c = record {
-  value = adds_both c.put-at.ensures.value c.put-number.ensures.value;
-  bounded = omega (arith, c.put-at.ensures.value.place, c.put-number.ensures.bounded);
+  value = adds_both c.put-at.ensures.value c.put_number.ensures.value;
+  bounded = omega (arith, c.put-at.ensures.value.place, c.put_number.ensures.bounded);
 }

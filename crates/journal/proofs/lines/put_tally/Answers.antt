@@ -6,18 +6,18 @@ use Rattle.journal.proofs.lines.put_tally.Goals as goal
 pub returns : goal.returns
 returns c = record {
   value =
-      adds_both c.put-word-at.ensures.value
-      (adds_both c.put-long-number-at.ensures.value
+      adds_both c.put_word-at.ensures.value
+      (adds_both c.put_long_number-at.ensures.value
       (adds_both c.put-at.ensures.value
-      (adds_both c.put-times-at.ensures.value
-      (adds_both c.put-field-at.ensures.value c.put-field.ensures.value))));
+      (adds_both c.put_times-at.ensures.value
+      (adds_both c.put_field-at.ensures.value c.put_field.ensures.value))));
   bounded = omega (
     arith,
-    c.put-word-at.ensures.value.place,
-    c.put-long-number-at.ensures.bounded,
+    c.put_word-at.ensures.value.place,
+    c.put_long_number-at.ensures.bounded,
     c.put-at.ensures.value.place,
-    c.put-times-at.ensures.bounded,
-    c.put-field-at.ensures.bounded,
-    c.put-field.ensures.bounded,
+    c.put_times-at.ensures.bounded,
+    c.put_field-at.ensures.bounded,
+    c.put_field.ensures.bounded,
   );
 }

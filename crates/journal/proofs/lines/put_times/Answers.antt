@@ -5,6 +5,6 @@ use Rattle.journal.proofs.lines.put_times.Goals as goal
 
 pub returns-in-Some : goal.returns-in-Some
 returns-in-Some c = record {
-  value = rw c.in-Some.is (adds_both c.put-number-at.ensures.value c.put-field.ensures.value);
-  bounded = omega (arith, c.put-number-at.ensures.bounded, c.put-field.ensures.bounded);
+  value = rw c.in-Some.is (adds_both c.put_number-at.ensures.value c.put_field.ensures.value);
+  bounded = omega (arith, c.put_number-at.ensures.bounded, c.put_field.ensures.bounded);
 }

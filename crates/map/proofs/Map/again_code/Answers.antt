@@ -1,7 +1,7 @@
 use Rattle.std.proofs.Common.{◌≡◌, List, get_or, set, refl, ap, ◌∙◌, inl, inr}
 use Rattle.map.proofs.Map.again_code.Goals as goal
 use Rattle.tables.specs.Totals.{climbed}
-use Rattle.tables.proofs.AgainCalls.{keeps_empty, keeps_other, keeps_joined, same_state}
+use Rattle.tables.proofs.Agains.{keeps_empty, keeps_other, keeps_joined, same_state}
 
 pub returns-then-self : goal.returns-then-self
 returns-then-self g c = record { keeps = keeps_empty g.K.Tally.joined g.K.Tally.neutral c.args.code c.args.extra _ c.if-self.true; lends = (refl, refl) }
@@ -27,8 +27,8 @@ returns g c =
       keeps =
           keeps_joined g.K.Tally.joined g.K.Tally.neutral c.args.code c.args.extra _ c.descend-leaf.result c.node-r.result c.if-self.false c.descend-leaf.ensures c.node-r.ensures
           c.if-r-ne-READING.false c.if-r-code.false _ rest.1.1.0 _
-          (same_state _ _ _ _ _ _ _ _ _ _ _ _ c.climb.ensures.same
+          (same_state _ _ _ _ _ _ _ _ _ _ _ _ _ _ c.climb.ensures.same
           (c.climb.ensures.run ∙ ap (λ (l : List g.row.K.Denot). climbed g.K.Tally.joined g.K.Tally.neutral c.args.self.now.records.now c.args.self.now.places c.node-r.result.parent l) stored)
-          rest.0 rest.1.0 rest.1.1.0 rest.1.1.1);
+          rest.0 rest.1.0 rest.1.1.0 rest.1.1.1.0 rest.1.1.1.1);
       lends = c.climb.ensures.lends;
     }

@@ -3,7 +3,7 @@ use Rattle.records.specs.declared.record.Record.{Record}
 use Rattle.map.proofs.Map.climb.Goals as goal
 use Rattle.records.specs.Writes.{at}
 use Rattle.tables.specs.Totals.{climbed}
-use Rattle.tables.proofs.RenewLaws.{stops, turns}
+use Rattle.tables.proofs.Climbs.{stops, turns}
 
 pub returns-then-i : goal.returns-then-i
 returns-then-i g c =
@@ -11,7 +11,7 @@ returns-then-i g c =
     let end : climbed g.K.Tally.joined g.K.Tally.neutral c.args.self.now.records.now c.loop-left.left c.loop-left.i c.loop-left.self.tallies.now ≡ c.loop-left.self.tallies.now =
     ap (λ (m : ℕ). climbed g.K.Tally.joined g.K.Tally.neutral c.args.self.now.records.now c.loop-left.left m c.loop-left.self.tallies.now) c.if-i.true
     ∙ stops g.K.Tally.joined g.K.Tally.neutral c.args.self.now.records.now c.loop-left.left c.loop-left.self.tallies.now in
-    record { run = sym end ∙ i.0; same = i.1; rest = (i.4, (i.5, (i.6, i.7))); lends = (i.2, i.3) }
+    record { run = sym end ∙ i.0; same = i.1; rest = (i.4, (i.5, (i.6, (i.7, i.8)))); lends = (i.2, i.3) }
 
 pub returns : goal.returns
 returns g c =
@@ -19,7 +19,7 @@ returns g c =
     let none : c.loop-left.left ≡ 0 = omega arith in
     let end : climbed g.K.Tally.joined g.K.Tally.neutral c.args.self.now.records.now c.loop-left.left c.loop-left.i c.loop-left.self.tallies.now ≡ c.loop-left.self.tallies.now =
     ap (λ (m : ℕ). climbed g.K.Tally.joined g.K.Tally.neutral c.args.self.now.records.now m c.loop-left.i c.loop-left.self.tallies.now) none in
-    record { run = sym end ∙ i.0; same = i.1; rest = (i.4, (i.5, (i.6, i.7))); lends = (i.2, i.3) }
+    record { run = sym end ∙ i.0; same = i.1; rest = (i.4, (i.5, (i.6, (i.7, i.8)))); lends = (i.2, i.3) }
 
 pub loop-left-preserved : goal.loop-left-preserved
 loop-left-preserved g c =
@@ -33,4 +33,5 @@ loop-left-preserved g c =
       i.5,
       i.6,
       i.7,
+      i.8,
     )

@@ -1,17 +1,15 @@
 use Rattle.std.proofs.Common.{◌≡◌, ℕ, ◌+◌, Ok, sym, refl, ap, ◌∙◌, arith}
 use mathlib.Core.Path.{subst⁻¹}
-use Rattle.records.specs.declared.places.FourPlaces.{FourPlaces}
-use Rattle.records.specs.declared.places.FreePlaces.{FreePlaces}
 use Rattle.map.proofs.Map.enter_code.Goals as goal
 use Rattle.map.specs.Maps.{state_of}
 use Rattle.tables.specs.Calls.{enters}
 use Rattle.tables.specs.Stands.{State, Keeps}
 use Rattle.tables.proofs.EnterCalls.{keeps_full_empty, keeps_first, keeps_taken, keeps_full, keeps_entered, grown_by}
 
-pub returns-then-is-full : goal.returns-then-is-full
-returns-then-is-full g c =
+pub returns-then-is_full : goal.returns-then-is_full
+returns-then-is_full g c =
     record {
-      keeps = keeps_full_empty g.K.Tally.joined g.K.Tally.neutral c.args.code c.args.priority c.args.extra _ c.if-self.true (sym c.is-full.ensures.value ∙ c.if-is-full.true);
+      keeps = keeps_full_empty g.K.Tally.joined g.K.Tally.neutral c.args.code c.args.priority c.args.extra _ c.if-self.true (sym c.is_full.ensures.value ∙ c.if-is_full.true);
       lends = (refl, refl);
     }
 
@@ -22,39 +20,39 @@ returns-then-self g c =
           subst⁻¹ (λ (u : State g.row.K.Denot). Keeps g.K.Tally.joined g.K.Tally.neutral (state_of c.args.self.now) u (enters c.args.code c.args.priority c.args.extra) (Ok 1))
           c.start.ensures.run
           (keeps_first g.K.Tally.joined g.K.Tally.neutral c.args.code c.args.priority c.args.extra (state_of c.args.self.now) c.if-self.true
-          (sym c.is-full.ensures.value ∙ c.if-is-full.false) (omega arith));
+          (sym c.is_full.ensures.value ∙ c.if-is_full.false) (omega arith));
       lends = c.start.ensures.lends;
     }
 
-pub returns-then-is-reading : goal.returns-then-is-reading
-returns-then-is-reading g c =
+pub returns-then-is_reading : goal.returns-then-is_reading
+returns-then-is_reading g c =
     record {
       keeps =
           keeps_taken g.K.Tally.joined g.K.Tally.neutral c.args.code c.args.priority c.args.extra _ c.descend-leaf.result c.node-record.result c.if-self.false
-          c.descend-leaf.ensures c.node-record.ensures (sym c.is-reading.ensures.value ∙ c.if-is-reading.true);
+          c.descend-leaf.ensures c.node-record.ensures (sym c.is_reading.ensures.value ∙ c.if-is_reading.true);
       lends = (refl, refl);
     }
 
-pub returns-then-is-full-2 : goal.returns-then-is-full-2
-returns-then-is-full-2 g c =
+pub returns-then-is_full-2 : goal.returns-then-is_full-2
+returns-then-is_full-2 g c =
     record {
       keeps =
           keeps_full g.K.Tally.joined g.K.Tally.neutral c.args.code c.args.priority c.args.extra _ c.descend-leaf.result c.node-record.result c.if-self.false
-          c.descend-leaf.ensures c.node-record.ensures (sym c.is-reading.ensures.value ∙ c.if-is-reading.false) (sym c.is-full-2.ensures.value ∙ c.if-is-full-2.true);
+          c.descend-leaf.ensures c.node-record.ensures (sym c.is_reading.ensures.value ∙ c.if-is_reading.false) (sym c.is_full-2.ensures.value ∙ c.if-is_full-2.true);
       lends = (refl, refl);
     }
 
 pub returns : goal.returns
 returns g c =
-    let taken = c.four-free.ensures.value in
+    let four = c.take_four-n.ensures in
     let grow = c.grow.ensures in
-    let one_more : c.grow.new.self.live + 1 ≡ c.args.self.now.live + 1 = ap (λ (x : ℕ). x + 1) grow.rest.1.0 in
+    let one_more : c.grow.new.self.live + 1 ≡ c.args.self.now.live + 1 = ap (λ (x : ℕ). x + 1) (grow.rest.1.0 ∙ four.rest.1.1) in
     record {
       keeps =
           keeps_entered g.K.Tally.joined g.K.Tally.neutral c.args.code c.args.priority c.args.extra _ c.descend-leaf.result c.node-record.result c.if-self.false
-          c.descend-leaf.ensures c.node-record.ensures (sym c.is-reading.ensures.value ∙ c.if-is-reading.false) (sym c.is-full-2.ensures.value ∙ c.if-is-full-2.false) (omega arith)
+          c.descend-leaf.ensures c.node-record.ensures (sym c.is_reading.ensures.value ∙ c.if-is_reading.false) (sym c.is_full-2.ensures.value ∙ c.if-is_full-2.false) (omega arith)
           _ one_more _
-          (grown_by g.K.Tally.joined g.K.Tally.neutral (state_of c.args.self.now) c.descend-leaf.result c.args.code c.args.priority c.args.extra _ _ _ _ _ _ _
-          grow.run (ap (λ (p : FourPlaces × FreePlaces). p.0) taken) grow.rest.0 one_more (ap (λ (p : FourPlaces × FreePlaces). p.1) taken));
-      lends = grow.lends;
+          (grown_by g.K.Tally.joined g.K.Tally.neutral (state_of c.args.self.now) c.descend-leaf.result c.args.code c.args.priority c.args.extra _ _ _ _ _ _ _ _ _ _ _
+          grow.run four.rest.0 four.same.0 four.same.1 four.places (grow.rest.0 ∙ four.rest.0) one_more (grow.rest.1.1.0 ∙ four.fresh) (grow.rest.1.1.1 ∙ four.freed));
+      lends = (grow.lends.0 ∙ four.lends.0, grow.lends.1 ∙ four.lends.1);
     }

@@ -1,10 +1,10 @@
 use Rattle.std.proofs.Common.{refl}
 use Rattle.map.proofs.Map.open.Goals as goal
-use Rattle.tables.proofs.EmptyMapLaws.{opens}
+use Rattle.tables.proofs.Opens.{opens}
 
 pub returns : goal.returns
 returns g c = record {
-  stands = opens g.K.Tally.joined g.K.Tally.neutral c.args.records.now c.args.tallies.now c.common-places.result c.none-used.result c.common-places.ensures c.none-used.ensures.stands;
+  stands = opens g.K.Tally.joined g.K.Tally.neutral c.args.records.now c.args.tallies.now c.common-places.result c.common-places.ensures;
   same = (refl, refl);
   lends = (refl, refl);
 }

@@ -2,7 +2,7 @@ use Rattle.std.proofs.Common.{◌≡◌, ◌-◌, List, sym, ap, ◌∙◌}
 use Rattle.records.specs.declared.record.Record.{Record}
 use Rattle.map.proofs.Map.rise.Goals as goal
 use Rattle.tables.specs.Totals.{raised, mended}
-use Rattle.tables.proofs.RiseLaws.{stops, turns}
+use Rattle.tables.proofs.Raises.{stops, turns}
 
 pub returns-then-r : goal.returns-then-r
 returns-then-r g c =
@@ -11,7 +11,7 @@ returns-then-r g c =
       run =
           sym (stops g.K.Tally.joined g.K.Tally.neutral c.loop-left.left c.loop-left.self.records.now c.loop-left.self.tallies.now c.loop-left.s
           (ap (λ (v : Record). v.parent) (sym c.node-r.ensures) ∙ c.if-r.true)) ∙ i.0;
-      rest = (i.3, (i.4, (i.5, i.6)));
+      rest = (i.3, (i.4, (i.5, (i.6, i.7))));
       lends = (i.1, i.2);
     }
 
@@ -31,5 +31,6 @@ loop-left-preserved g c =
       b.rest.0 ∙ a.rest.0 ∙ i.3,
       b.rest.1.0 ∙ a.rest.1.0 ∙ i.4,
       b.rest.1.1.0 ∙ a.rest.1.1.0 ∙ i.5,
-      b.rest.1.1.1 ∙ a.rest.1.1.1 ∙ i.6,
+      b.rest.1.1.1.0 ∙ a.rest.1.1.1.0 ∙ i.6,
+      b.rest.1.1.1.1 ∙ a.rest.1.1.1.1 ∙ i.7,
     )

@@ -12,7 +12,8 @@ invariant-loop-left g l =
     × (l.self.places ≡ l.initial.self.places)
     × (l.self.root ≡ l.initial.self.root)
     × (l.self.live ≡ l.initial.self.live)
-    × (l.self.free ≡ l.initial.self.free)
+    × (l.self.fresh ≡ l.initial.self.fresh)
+    × (l.self.freed ≡ l.initial.self.freed)
 
 abbrev pub decreases-loop-left : goal.decreases-loop-left
 decreases-loop-left g l = l.left

@@ -23,8 +23,8 @@ pub returns-then-r : goal.returns-then-r
 returns-then-r g c = record {
   keeps =
       keeps_last g.K.Tally.joined g.K.Tally.neutral c.args.code _ c.descend-leaf.result c.node-r.result c.if-self.false c.descend-leaf.ensures c.node-r.ensures c.if-r-ne-READING.false c.if-r-code.false
-      c.if-r.true _ (ap (λ (s : State g.row.K.Denot). s.live) c.strike-last.ensures.run) _ c.strike-last.ensures.run;
-  lends = c.strike-last.ensures.lends;
+      c.if-r.true _ (ap (λ (s : State g.row.K.Denot). s.live) c.strike_last.ensures.run) _ c.strike_last.ensures.run;
+  lends = c.strike_last.ensures.lends;
 }
 
 pub returns-in-Done : goal.returns-in-Done
@@ -32,8 +32,8 @@ returns-in-Done g c = record {
   keeps =
       keeps_struck g.K.Tally.joined g.K.Tally.neutral c.args.code _ c.descend-leaf.result c.node-r.result c.if-self.false c.descend-leaf.ensures c.node-r.ensures c.if-r-ne-READING.false c.if-r-code.false
       c.if-r.false c.strike.new.records c.in-Done.i c.in-Done.places c.in-Done.ensures.table c.in-Done.ensures.ends
-      _ (ap (λ (s : State g.row.K.Denot). s.live) c.finish-strike.ensures.run) _ c.finish-strike.ensures.run;
-  lends = c.finish-strike.ensures.lends;
+      _ (ap (λ (s : State g.row.K.Denot). s.live) c.finish_strike.ensures.run) _ c.finish_strike.ensures.run;
+  lends = c.finish_strike.ensures.lends;
 }
 
 pub returns-in-Lost : goal.returns-in-Lost

@@ -1,6 +1,6 @@
 use Rattle.std.proofs.Common.{refl}
 use Rattle.map.proofs.Map.tally.Goals as goal
-use Rattle.tables.proofs.TallyLaws.{answers}
+use Rattle.tables.proofs.Walked.{answers}
 
 pub returns : goal.returns
 returns g c =

@@ -1,7 +1,7 @@
 use Rattle.map.proofs.Map.tally_disc.Goals as goal
 use Rattle.quadtreap.specs.Walk.{answer}
 use Rattle.map.specs.Maps.{state_of}
-use Rattle.tables.proofs.SameAnswerLaws.{disc_effort}
+use Rattle.tables.proofs.Comparisons.{disc_effort}
 
 pub returns : goal.returns
 returns g c =

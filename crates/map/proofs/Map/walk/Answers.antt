@@ -1,7 +1,7 @@
 use Rattle.std.proofs.Common.{sym, ◌∙◌, arith}
 use Rattle.map.proofs.Map.walk.Goals as goal
 use Rattle.tables.specs.Walks.{numbered}
-use Rattle.tables.proofs.WalkTurnLaws.{stops, turns}
+use Rattle.tables.proofs.Runs.{stops, turns}
 
 pub returns-then-spot : goal.returns-then-spot
 returns-then-spot g c =

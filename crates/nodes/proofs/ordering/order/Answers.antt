@@ -5,8 +5,8 @@ use Rattle.records.proofs.PromiseLaws.{ordered_lifts}
 pub returns-then-rs-le32 : goal.returns-then-rs-le32
 returns-then-rs-le32 g c = record { table = search rules; stands = ordered_lifts g.row.K.Denot c.args.records.now _ c.args.s (search rules) }
 
-pub returns-then-ranks-before : goal.returns-then-ranks-before
-returns-then-ranks-before g c = record { table = search rules; stands = ordered_lifts g.row.K.Denot c.args.records.now _ c.args.s (search rules) }
+pub returns-then-ranks_before : goal.returns-then-ranks_before
+returns-then-ranks_before g c = record { table = search rules; stands = ordered_lifts g.row.K.Denot c.args.records.now _ c.args.s (search rules) }
 
 pub returns : goal.returns
 returns g c = record { table = search rules; stands = ordered_lifts g.row.K.Denot c.args.records.now _ c.args.s (search rules) }

@@ -6,6 +6,6 @@ use Rattle.pamtext.proofs.lines.passed_over.Goals as goal
 
 pub returns : goal.returns
 returns c = record {
-  value = passed_by_first c.args.line.now c.starts-with.result (search rules)
-      (starts_char 35 c.args.line.now c.starts-with.result c.starts-with.ensures.cases (omega arith) (omega arith));
+  value = passed_by_first c.args.line.now c.starts_with.result (search rules)
+      (starts_char 35 c.args.line.now c.starts_with.result c.starts_with.ensures.cases (omega arith) (omega arith));
 }

@@ -29,11 +29,11 @@ pub loop-i-init : goal.loop-i-init
 unfolding interleave
 loop-i-init c = refl
 
-pub overflow-mul-code : goal.overflow-mul-code
-overflow-mul-code c = omega (arith, room c.loop-i.i _ _ c.loop-i.code (omega arith) c.loop-i.invariant)
+pub overflow_mul-code : goal.overflow_mul-code
+overflow_mul-code c = omega (arith, room c.loop-i.i _ _ c.loop-i.code (omega arith) c.loop-i.invariant)
 
-pub overflow-add-code-in-loop-i : goal.overflow-add-code-in-loop-i
-overflow-add-code-in-loop-i c = omega (arith, room c.loop-i.i _ _ c.loop-i.code (omega arith) c.loop-i.invariant)
+pub overflow_add-code-in-loop-i : goal.overflow_add-code-in-loop-i
+overflow_add-code-in-loop-i c = omega (arith, room c.loop-i.i _ _ c.loop-i.code (omega arith) c.loop-i.invariant)
 
 pub loop-i-preserved : goal.loop-i-preserved
 loop-i-preserved c = two_more c.loop-i.i c.args.self.motor c.args.self.root c.loop-i.code (omega arith) c.loop-i.invariant

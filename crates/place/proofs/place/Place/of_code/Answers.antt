@@ -47,17 +47,17 @@ root-room c =
     room c.loop-i.i c.loop-i.root c.loop-i-test.true
     (subst (λ (x : ℕ). x < 2 ^ c.loop-i.i) (sym c.loop-i.invariant.1) (even_lt c.loop-i.i (c.args.code / 2 ^ (32 - c.loop-i.i * 2))))
 
-pub overflow-mul-motor : goal.overflow-mul-motor
-overflow-mul-motor c = omega (arith, motor-room c)
+pub overflow_mul-motor : goal.overflow_mul-motor
+overflow_mul-motor c = omega (arith, motor-room c)
 
-pub overflow-add-motor : goal.overflow-add-motor
-overflow-add-motor c = omega (arith, motor-room c)
+pub overflow_add-motor : goal.overflow_add-motor
+overflow_add-motor c = omega (arith, motor-room c)
 
-pub overflow-mul-root : goal.overflow-mul-root
-overflow-mul-root c = omega (arith, root-room c)
+pub overflow_mul-root : goal.overflow_mul-root
+overflow_mul-root c = omega (arith, root-room c)
 
-pub overflow-add-root : goal.overflow-add-root
-overflow-add-root c = omega (arith, root-room c)
+pub overflow_add-root : goal.overflow_add-root
+overflow_add-root c = omega (arith, root-room c)
 
 pub loop-i-preserved : goal.loop-i-preserved
 loop-i-preserved c = (

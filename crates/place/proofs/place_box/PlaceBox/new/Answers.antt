@@ -20,11 +20,15 @@ cut_clear k c = mul-mod_left (c / 2 ^ (32 - k)) (2 ^ (32 - k))
 abbrev boxed : ℕ → ℕ → Box
 boxed d v = record { depth = d; code = v }
 
-pub invariant-of-result : goal.invariant-of-result
-invariant-of-result c =
+pub invariant_of-result : goal.invariant_of-result
+invariant_of-result c =
     let k = c.min-depth.result in
     let e = cleared k c.args.code (omega arith) in
-    (omega arith, (subst⁻¹ (λ (x : ℕ). x % 2 ^ (32 - k) ≡ 0) e (cut_clear k c.args.code), (omega (arith, e, cut_small k c.args.code (omega arith)), tt)))
+    record {
+      deep = omega arith;
+      clear = subst⁻¹ (λ (x : ℕ). x % 2 ^ (32 - k) ≡ 0) e (cut_clear k c.args.code);
+      fits = omega (arith, e, cut_small k c.args.code (omega arith));
+    }
 
 pub returns : goal.returns
 returns c =

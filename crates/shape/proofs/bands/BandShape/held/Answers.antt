@@ -9,8 +9,8 @@ returns c =
     let t = c.args.region in
     c.both.ensures.value
     ∙ ap₂ ◌&&◌
-    (c.inside-motors.ensures.value ∙ ap₂ (λ (x y : ℕ). leb x t.lowest_motor && leb t.highest_motor y) c.saturating-sub.ensures c.saturating-add.ensures)
-    (c.inside-roots.ensures.value ∙ ap₂ (λ (x y : ℕ). leb x t.lowest_root && leb t.highest_root y) c.saturating-sub-2.ensures c.saturating-add-2.ensures)
+    (c.inside-motors.ensures.value ∙ ap₂ (λ (x y : ℕ). leb x t.lowest_motor && leb t.highest_motor y) c.saturating_sub.ensures c.saturating_add.ensures)
+    (c.inside-roots.ensures.value ∙ ap₂ (λ (x y : ℕ). leb x t.lowest_root && leb t.highest_root y) c.saturating_sub-2.ensures c.saturating_add-2.ensures)
     ∙ sym
     (held_by t.lowest_motor t.highest_motor t.lowest_root t.highest_root
     (own.lowest_motor - margin) (min (own.highest_motor + margin) 65535) (own.lowest_root - margin) (min (own.highest_root + margin) 65535)

@@ -8,8 +8,8 @@ pub loop-depth-init : goal.loop-depth-init
 unfolding sum_below
 loop-depth-init c = (refl, omega arith)
 
-pub overflow-add-sum : goal.overflow-add-sum
-overflow-add-sum c = omega (arith, c.loop-depth.invariant.1, c.added-at-sum.ensures.bound)
+pub overflow_add-sum : goal.overflow_add-sum
+overflow_add-sum c = omega (arith, c.loop-depth.invariant.1, c.added_at-sum.ensures.bound)
 
 one_more : (n s x : ℕ) (f : ℕ → ℕ) → s ≡ sum_below n f → x ≡ f n → s + x ≡ sum_below (n + 1) f
 unfolding sum_below
@@ -18,9 +18,9 @@ one_more n s x f e h = ap₂ (λ (y z : ℕ). y + z) e h ∙ ap (λ (y : ℕ). s
 pub loop-depth-preserved : goal.loop-depth-preserved
 loop-depth-preserved c =
     let d = c.args.self.now in (
-      one_more c.loop-depth.depth c.loop-depth.sum c.added-at-sum.result (λ k. added d.inner_radius (d.outer_radius - d.inner_radius) k)
-          c.loop-depth.invariant.0 c.added-at-sum.ensures.value,
-      omega (arith, c.loop-depth.invariant.1, c.added-at-sum.ensures.bound),
+      one_more c.loop-depth.depth c.loop-depth.sum c.added_at-sum.result (λ k. added d.inner_radius (d.outer_radius - d.inner_radius) k)
+          c.loop-depth.invariant.0 c.added_at-sum.ensures.value,
+      omega (arith, c.loop-depth.invariant.1, c.added_at-sum.ensures.bound),
     )
 
 all_depths : (n s r R : ℕ) → n ≡ 33 → s ≡ sum_below n (λ k. added r (R - r) k) → s ≡ crossing_sum r R

@@ -12,8 +12,8 @@ use Rattle.records.proofs.SettleLaws.{settles}
 use Rattle.records.proofs.PairLaws.{nodes_frames, lies_whole}
 use Rattle.records.proofs.CountLaws.{places_settle}
 use Rattle.records.proofs.ElsewhereLaws.{off_settle}
-use Rattle.tables.proofs.RenewLaws.{Beside}
-use Rattle.tables.proofs.PairEntryLaws.{Beyond, alike, onward, Steps, steps_on, mended_both}
+use Rattle.tables.proofs.Climbs.{Beside}
+use Rattle.tables.proofs.Mends.{Beyond, alike, onward, Steps, steps_on, mended_both}
 
 module _ {K : Type 0} (join : K → K → K) (e : K) where
   abbrev run : ℕ → List Record → List K → ℕ → Tables K

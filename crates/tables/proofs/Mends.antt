@@ -15,7 +15,7 @@ use Rattle.tables.specs.Totals.{Has, Totals, renewed, mended}
 use Rattle.records.proofs.FrameLaws.{one_same, differ, root_occurs, occurs_around, LiesAmong}
 use Rattle.records.proofs.SettleLaws.{nodes_ordered, place_ordered}
 use Rattle.records.proofs.CountLaws.{places_ordered}
-use Rattle.tables.proofs.RenewLaws.{bears_other, bears_same, root_bears, Beside}
+use Rattle.tables.proofs.Climbs.{bears_other, bears_same, root_bears, Beside}
 
 module _ {K : Type 0} (join : K → K → K) (e : K) where
   abbrev sum : PlacedNodes K → K

@@ -13,7 +13,7 @@ use Rattle.records.specs.Writes.{at, box_of}
 use Rattle.tables.specs.Totals.{Totals}
 use Rattle.tables.specs.Walks.{moved, took, crossed, arrived, returned, ran}
 use Rattle.quadtreap.proofs.VisitLaws.{step_by_step}
-use Rattle.tables.proofs.WalkTurnLaws.{stops, goes}
+use Rattle.tables.proofs.Runs.{stops, goes}
 use Rattle.records.proofs.FrameLaws.{differ, root_le, root_occurs, root_lies, root_outer}
 
 module _ {K : Type 0} (join : K → K → K) (e : K) (q : Tests) (laws : Joins join e) (recs : List Record) (ts : List K) where

@@ -13,11 +13,11 @@ use Rattle.tables.specs.Tallies.{Answers}
 use Rattle.quadtreap.proofs.WalkLaws.{same_tests, counts_each_once}
 use Rattle.quadtreap.proofs.EffortLaws.{effort_is_bounded}
 use Rattle.quadtreap.proofs.SameLaws.{same_readings}
-use Rattle.tables.proofs.FoundLeafLaws.{none_of, held, held_tree, held_lain, held_top, held_few}
-use Rattle.tables.proofs.RollLaws.{ranked_roll}
-use Rattle.tables.proofs.ShapeTestLaws.{numbered_agree}
-use Rattle.tables.proofs.WalkTurnLaws.{stops}
-use Rattle.tables.proofs.WalkTreeLaws.{Laid, whole_walk}
+use Rattle.tables.proofs.Finds.{none_of, held, held_tree, held_lain, held_top, held_few}
+use Rattle.tables.proofs.Rolls.{ranked_roll}
+use Rattle.tables.proofs.Sights.{numbered_agree}
+use Rattle.tables.proofs.Runs.{stops}
+use Rattle.tables.proofs.Turns.{Laid, whole_walk}
 
 -- what a walk has found
 abbrev pub found : {K : Type 0} → Spot K → Answer K

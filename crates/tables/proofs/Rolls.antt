@@ -9,7 +9,7 @@ use Rattle.quadtreap.specs.Find.{lookup}
 use Rattle.tables.specs.Calls.{Call, enters, repeats, strikes, asks, is_some, present, full, reads, more, next, roll}
 use Rattle.quadtreap.proofs.RankLaws.{ranked_kept}
 use Rattle.quadtreap.proofs.SameLaws.{ranked_put}
-use Rattle.tables.proofs.AgainTreeLaws.{ranked_carry}
+use Rattle.tables.proofs.Carries.{ranked_carry}
 
 module _ {K : Type 0} where
   -- a code that no reading has

@@ -14,8 +14,8 @@ use Rattle.records.proofs.FrameLaws.{one_same, differ, occurs_around, LiesAmong}
 use Rattle.records.proofs.SettleLaws.{nodes_ordered}
 use Rattle.records.proofs.PlantLaws.{plants}
 use Rattle.records.proofs.ElsewhereLaws.{off_plant}
-use Rattle.tables.proofs.RenewLaws.{bears_other, bears_same, Beside}
-use Rattle.tables.proofs.PairEntryLaws.{Beyond, onward, beside_in, mends_ordered}
+use Rattle.tables.proofs.Climbs.{bears_other, bears_same, Beside}
+use Rattle.tables.proofs.Mends.{Beyond, onward, beside_in, mends_ordered}
 
 module _ {K : Type 0} (join : K → K → K) (e : K) where
   leaf_sum : (C B : Box) (c : Content K) → tally_of join e (leaf C c) ≡ tally_of join e (leaf B c)
