@@ -6,7 +6,6 @@ use Rattle.place.specs.Boxes.{prefix, Box, in_box, motor_side, root_side, betwee
 use Rattle.place.proofs.SideLaws.{motor_end, root_end, box_places}
 use Rattle.tally.specs.Sums.{zero_sum, sum_joined}
 use Rattle.tally.specs.declared.sum.Sum.{Sum}
-use Rattle.crossing.specs.Regions.{misses, held}
 use Rattle.crossing.specs.Discs.{within, gap_to, reach_to}
 use Rattle.crossing.proofs.RegionLaws.{misses_same, held_same}
 use Rattle.crossing.proofs.DiscLaws.{disc_misses, disc_holds}

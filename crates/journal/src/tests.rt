@@ -104,10 +104,10 @@ fn every_record_is_read_back_whole_and_cut_short_before(rt: HostRuntime) -> Resu
 fn a_record_leaves_the_bytes_after_it(rt: HostRuntime) -> Result<(), Fail> {
     let (first, left) = decode(b"S\x00\x01\x00\x02Hx")?;
     assert_eq!(rt; first, Entry::Strike { motor: 1, root: 2 });
-    assert!(rt; left == b"Hx");
+    assert!(rt; left == b"Hx".as_slice());
     let (second, left) = decode(left)?;
     assert_eq!(rt; second, Entry::Height);
-    assert!(rt; left == b"x");
+    assert!(rt; left == b"x".as_slice());
     assert_eq!(rt; decode_fault(left), 13);
     Ok(())
 }
@@ -137,7 +137,7 @@ fn headings_are_told_apart(rt: HostRuntime) -> Result<(), Fail> {
     assert_eq!(rt; heading_fault(b"PAM\x00\x02"), 12);
     assert_eq!(rt; heading_fault(b"PAM\x01\x00"), 12);
     assert_eq!(rt; heading(b"PAM\x00\x01")?.len(), 0);
-    assert!(rt; heading(b"PAM\x00\x01H\x00")? == b"H\x00");
+    assert!(rt; heading(b"PAM\x00\x01H\x00")? == b"H\x00".as_slice());
     Ok(())
 }
 

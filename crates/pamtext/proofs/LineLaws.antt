@@ -1,5 +1,5 @@
 -- White space around a line, and the byte that ends it.
-use Rattle.std.proofs.Common.{◌≡◌, ℕ, zero, suc, ◌+◌, ◌-◌, ◌<◌, ◌≤◌, Bool, true, false, eqb, List, [], ◌∷◌, ◌++◌, reverse, length, get_or, take, drop, Some, None, Decides, sym, refl, ap, ◌∙◌, arith, Bor}
+use Rattle.std.proofs.Common.{◌≡◌, ℕ, zero, suc, ◌-◌, ◌<◌, ◌≤◌, Bool, true, false, eqb, List, [], ◌∷◌, ◌++◌, reverse, length, get_or, take, drop, Some, None, Decides, sym, refl, ap, ◌∙◌, arith, Bor}
 use mathlib.Core.Bool.{false≢true}
 use mathlib.Core.List.{reverse-append, reverse-reverse}
 use Rattle.std.specs.Char.{is_ascii_whitespace}

@@ -121,9 +121,9 @@ fn lines_count_from_1_with_those_that_are_passed_over(rt: HostRuntime) -> Result
 #[test]
 fn white_space_around_a_line_is_passed_over(rt: HostRuntime) -> Result<(), Fail> {
     let bytes = journal_of(rt.alloc(), " # remark\r\n\r\n\tS 258,1 \r\nH")?;
-    assert!(rt; bytes.as_slice() == b"PAM\x00\x01S\x01\x02\x00\x01H");
+    assert!(rt; bytes.as_slice() == b"PAM\x00\x01S\x01\x02\x00\x01H".as_slice());
     let none = journal_of(rt.alloc(), "")?;
-    assert!(rt; none.as_slice() == b"PAM\x00\x01");
+    assert!(rt; none.as_slice() == b"PAM\x00\x01".as_slice());
     Ok(())
 }
 

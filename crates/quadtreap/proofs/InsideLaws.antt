@@ -1,10 +1,10 @@
 -- Where the boxes of a tree lie.
-use Rattle.std.proofs.Common.{◌≡◌, ℕ, zero, suc, ◌-◌, ◌^◌, ◌<◌, ◌≤◌, min, Bool, true, false, List, [], ◌∷◌, length, filter, sym, refl, ◌∙◌, subst, inl, inr, arith}
+use Rattle.std.proofs.Common.{◌≡◌, ℕ, zero, suc, ◌^◌, ◌<◌, ◌≤◌, min, Bool, true, false, List, [], ◌∷◌, length, filter, sym, refl, ◌∙◌, subst, inl, inr, arith}
 use mathlib.Core.Option.{some}
 use Rattle.std.specs.List.{AllByRecursion as All}
 use Rattle.std.proofs.lemmas.Bool.{cases_lt, both_ways, not-true, and_parts, and_from}
 use Rattle.std.proofs.ByRecursion.{all_kept_by, All-weaker, kept_by_passes}
-use Rattle.place.specs.Boxes.{prefix, Box, cut, point, holds, within, smallest, half, Formed}
+use Rattle.place.specs.Boxes.{prefix, Box, cut, holds, within, smallest, half, Formed}
 use Rattle.quadtreap.specs.Tree.{Reading, Content, reading, box, Tree, leaf, shrink, split, point_of, extent, box_in, outer, lies, outside, pair, build}
 use Rattle.quadtreap.specs.Cells.{readings, in_cell}
 use Rattle.place.proofs.BoxLaws.{Parts, halves, prefix_cut, cut_eq, holds_own, true_holds, agree_le, within_parts, parts_within, within_refl, within_trans, within_holds, smallest_left, smallest_least, point_within, cut_small}

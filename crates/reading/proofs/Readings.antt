@@ -1,5 +1,5 @@
 -- The two times and the numbers that were read leave a single answer.
-use Rattle.std.proofs.Common.{◌≡◌, ℕ, ◌+◌, ◌≤◌, Ok, Err, Result, sym, refl, ap, ◌∙◌, subst, arith}
+use Rattle.std.proofs.Common.{◌≡◌, ℕ, ◌+◌, ◌≤◌, Ok, Err, sym, refl, ap, ◌∙◌, subst, arith}
 use native.Mathlib.Bridge.{le_prop}
 use Rattle.reading.specs.Limit.{longest}
 use Rattle.reading.specs.declared.counts.Counts.{Counts}

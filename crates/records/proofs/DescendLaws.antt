@@ -4,7 +4,7 @@ use Rattle.std.proofs.lemmas.Bool.{cases_Bool, and_from}
 use Rattle.records.specs.declared.record.Record.{Record}
 use Rattle.place.specs.Boxes.{holds}
 use Rattle.quadtreap.specs.Tree.{Content, reading, box, outer, nodes}
-use Rattle.quadtreap.specs.Enter.{leads, leads_all}
+use Rattle.quadtreap.specs.Enter.{leads_all}
 use Rattle.records.specs.PlacedNodes.{leaf_kind, PlacedNodes, NodesRecorded, LiesIn}
 use Rattle.records.specs.Writes.{at, box_of, descended}
 use Rattle.records.specs.PlacedPairs.{PlacedPairs, placed_leaf, placed_pair, nodes_of, tree_in, top_place, PairFrame, on_left_at, on_right_at, on_outer_at, put_in_all, frames, Reaches}

@@ -3,7 +3,7 @@ use Rattle.std.proofs.Common.{◌≡◌, ℕ, zero, suc, ◌≤◌, Bool, true, 
 use mathlib.Core.Option.{Option, none, some}
 use Rattle.std.proofs.lemmas.Bool.{false≢true}
 use Rattle.place.specs.Boxes.{Box}
-use Rattle.quadtreap.specs.Tree.{box, outer, nodes}
+use Rattle.quadtreap.specs.Tree.{outer, nodes}
 use Rattle.quadtreap.specs.Rank.{Rank}
 use Rattle.quadtreap.specs.Pairs.{inner_box, unranked, node_rank, is_none, InnerBoxes, Paired}
 use Rattle.quadtreap.specs.Strike.{least_of, node_rank_after}

@@ -1,11 +1,10 @@
 -- A few writes at the places of a tree change that tree and nothing around it.
 use Rattle.std.proofs.Common.{◌≡◌, ℕ, ◌+◌, ◌<◌, ◌≤◌, true, false, cond, eqb, ◌≢◌, List, [], ◌∷◌, length, set, sym, refl, ap, ◌∙◌, subst, inl, inr, arith, length-set, get_or-set_other, get_or-set_same}
-use mathlib.Core.Option.{some}
 use Rattle.std.proofs.lemmas.Bool.{eq-eqb, ne_eqb}
 use Rattle.records.specs.declared.record.Record.{Record}
 use Rattle.records.specs.PlacedNodes.{kind_of, in_record, PlacedNodes, leaf_at, node_at, place_of, one, occurs, blank, Lies, NodesRecorded, NodeFrame, first, second, above}
 use Rattle.records.specs.Writes.{at, Write, write, wrote, with_parent, renamed, relinked}
-use Rattle.records.proofs.FrameLaws.{one_same, differ, touched, In, there, long, reads_on, reads_in, root_occurs, same_nodes, same_frames, occurs_around, Around}
+use Rattle.records.proofs.FrameLaws.{one_same, differ, touched, In, long, reads_on, reads_in, root_occurs, same_nodes, same_frames, occurs_around, Around}
 
 pub relinked_long : (t : List Record) (p x y : ℕ) → length (relinked t p x y) ≡ length t
 relinked_long t p x y = elim (eqb p 65535) as (λ b. length (cond b t (set t p (renamed (at t p) x y))) ≡ length t) [ true ↦ refl | false ↦ length-set t p _ ]

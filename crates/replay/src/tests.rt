@@ -215,10 +215,11 @@ fn five_places_take_two_readings_and_no_place_takes_none(rt: HostRuntime) -> Res
     ];
     let journal = journal_of(heap, &records)?;
     let five = run_with(heap, 5, &journal)?;
-    assert!(rt; five.as_slice() == b"1 ok 1\n2 ok 2\n3 refused 8\n4 ok 1\n5 ok 2\n");
+    assert!(rt; five.as_slice() == b"1 ok 1\n2 ok 2\n3 refused 8\n4 ok 1\n5 ok 2\n".as_slice());
     let none = run_with(heap, 0, &journal)?;
     assert!(rt;
-        none.as_slice() == b"1 refused 8\n2 refused 8\n3 refused 8\n4 refused 9\n5 refused 8\n"
+        none.as_slice()
+            == b"1 refused 8\n2 refused 8\n3 refused 8\n4 refused 9\n5 refused 8\n".as_slice()
     );
     Ok(())
 }

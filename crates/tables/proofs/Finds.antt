@@ -4,7 +4,7 @@ use mathlib.Core.Option.{Option, none, some}
 use Rattle.std.proofs.lemmas.Bool.{and_parts}
 use Rattle.records.specs.declared.record.Record.{Record}
 use Rattle.place.specs.Boxes.{Box, holds}
-use Rattle.quadtreap.specs.Tree.{Reading, Content, box, outer, tree_of, nodes, map_nodes}
+use Rattle.quadtreap.specs.Tree.{Reading, Content, outer, tree_of, nodes, map_nodes}
 use Rattle.quadtreap.specs.Enter.{leads_all}
 use Rattle.quadtreap.specs.Find.{content_at, of_code, map_find, lookup}
 use Rattle.records.specs.PlacedNodes.{leaf_at, record_of, above, LiesIn}
