@@ -1,12 +1,12 @@
 //! The worked figures, each of which follows from the definitions.
 #![tactic(auto)]
 
-ghost use Rattle.std.specs.List.{AllByRecursion as All};
+ghost use Rattle.std.specs.List.{AllByRecursion};
 ghost use Rattle.figures.specs.Figures.{Follows, figures};
 
 /// Every figure of the list follows from the definitions.
 pub fn figures_follow() -> u8
-    ensures all { All Follows figures }
+    ensures all { AllByRecursion Follows figures }
 {
     0
 }

@@ -1,7 +1,7 @@
 -- What the nodes of a tree hold.
 use Rattle.std.proofs.Common.{◌≡◌, ℕ, zero, suc, ◌≤◌, Bool, true, false, cond, List, [], ◌∷◌, ◌++◌, length, filter, sym, refl, ap, ◌∙◌, subst, arith}
 use mathlib.Core.Option.{Option, none, some}
-use Rattle.std.specs.List.{AllByRecursion as All}
+use Rattle.std.specs.List.{AllByRecursion}
 use Rattle.std.proofs.lemmas.Bool.{not-true, and_parts, and_from}
 use Rattle.std.proofs.ByRecursion.{All-append, all_kept_by, kept_by_passes}
 use Rattle.place.specs.Boxes.{Box, cut, smallest, half}
@@ -11,29 +11,29 @@ use Rattle.place.proofs.BoxLaws.{Parts, Lies, halves, holds_own}
 use Rattle.quadtreap.proofs.BuildLaws.{build_cons}
 use Rattle.quadtreap.proofs.KeepLaws.{length_kept, all_kept_with, outside_parts, Apart, apart_kept}
 
-pub all_parts : {X : Type 0} (P : X → Type 0) (xs ys : List X) → All P (xs ++ ys) → All P xs × All P ys
+pub all_parts : {X : Type 0} (P : X → Type 0) (xs ys : List X) → AllByRecursion P (xs ++ ys) → AllByRecursion P xs × AllByRecursion P ys
 all_parts P [] ys a = (tt, a)
 all_parts P (x ∷ xs) ys a = let ih = all_parts P xs ys a.1 in ((a.0, ih.0), ih.1)
 
 -- what holds of a tree's readings and of the one that comes, at a node of either kind
 module _ {K : Type 0} (P : Reading K → Type 0) (node : Tree K → Tree K → Tree K) (is : (a b : Tree K) → readings (node a b) ≡ readings a ++ readings b) (a b : Tree K) (p : Reading K) where
-  all_into : (v : Bool) → All P (readings a ++ readings b) → (All P (readings a) → All P (readings (insert a p))) → (All P (readings b) → All P (readings (insert b p)))
-      → All P (readings (cond v (node (insert a p) b) (node a (insert b p))))
+  all_into : (v : Bool) → AllByRecursion P (readings a ++ readings b) → (AllByRecursion P (readings a) → AllByRecursion P (readings (insert a p))) → (AllByRecursion P (readings b) → AllByRecursion P (readings (insert b p)))
+      → AllByRecursion P (readings (cond v (node (insert a p) b) (node a (insert b p))))
   all_into true all f g =
-      let ps = all_parts P (readings a) (readings b) all in subst (All P) (sym (is (insert a p) b)) (All-append P (readings (insert a p)) (readings b) (f ps.0) ps.1)
+      let ps = all_parts P (readings a) (readings b) all in subst (AllByRecursion P) (sym (is (insert a p) b)) (All-append P (readings (insert a p)) (readings b) (f ps.0) ps.1)
   all_into false all f g =
-      let ps = all_parts P (readings a) (readings b) all in subst (All P) (sym (is a (insert b p))) (All-append P (readings a) (readings (insert b p)) ps.0 (g ps.1))
+      let ps = all_parts P (readings a) (readings b) all in subst (AllByRecursion P) (sym (is a (insert b p))) (All-append P (readings a) (readings (insert b p)) ps.0 (g ps.1))
 
-  pub all_out_of : (v : Bool) → All P (readings (cond v (node (insert a p) b) (node a (insert b p))))
-      → (All P (readings (insert a p)) → All P (readings a) × P p) → (All P (readings (insert b p)) → All P (readings b) × P p) → All P (readings a ++ readings b) × P p
+  pub all_out_of : (v : Bool) → AllByRecursion P (readings (cond v (node (insert a p) b) (node a (insert b p))))
+      → (AllByRecursion P (readings (insert a p)) → AllByRecursion P (readings a) × P p) → (AllByRecursion P (readings (insert b p)) → AllByRecursion P (readings b) × P p) → AllByRecursion P (readings a ++ readings b) × P p
   all_out_of true all f g =
-      let ps = all_parts P (readings (insert a p)) (readings b) (subst (All P) (is (insert a p) b) all) in
+      let ps = all_parts P (readings (insert a p)) (readings b) (subst (AllByRecursion P) (is (insert a p) b) all) in
       let q = f ps.0 in (All-append P (readings a) (readings b) q.0 ps.1, q.1)
   all_out_of false all f g =
-      let ps = all_parts P (readings a) (readings (insert b p)) (subst (All P) (is a (insert b p)) all) in
+      let ps = all_parts P (readings a) (readings (insert b p)) (subst (AllByRecursion P) (is a (insert b p)) all) in
       let q = g ps.1 in (All-append P (readings a) (readings b) ps.0 q.0, q.1)
 
-pub all_insert : {K : Type 0} (P : Reading K → Type 0) (t : Tree K) (p : Reading K) → All P (readings t) → P p → All P (readings (insert t p))
+pub all_insert : {K : Type 0} (P : Reading K → Type 0) (t : Tree K) (p : Reading K) → AllByRecursion P (readings t) → P p → AllByRecursion P (readings (insert t p))
 all_insert P (leaf C (reading r)) p a h = (a.0, (h, tt))
 all_insert P (leaf C (box I)) p a h = (h, tt)
 all_insert P (shrink C i a b) p all h =
@@ -41,7 +41,7 @@ all_insert P (shrink C i a b) p all h =
 all_insert P (split E i a b) p all h =
     all_into P (split E i) (λ x y. refl) a b p (lies (outer a) p) all (λ u. all_insert P a p u h) (λ u. all_insert P b p u h)
 
-pub all_insert_all : {K : Type 0} (P : Reading K → Type 0) (t : Tree K) (ps : List (Reading K)) → All P (readings t) → All P ps → All P (readings (insert_all t ps))
+pub all_insert_all : {K : Type 0} (P : Reading K → Type 0) (t : Tree K) (ps : List (Reading K)) → AllByRecursion P (readings t) → AllByRecursion P ps → AllByRecursion P (readings (insert_all t ps))
 all_insert_all P t [] a h = a
 all_insert_all P t (p ∷ ps) a h = all_insert_all P (insert t p) ps (all_insert P t p a h.0) h.1
 
@@ -74,12 +74,12 @@ in_first C (some I) r h = (and_parts (lies C r) (outside I r) h).0
 lies_either : (e h g : Bool) → Lies e h g → (h ≡ true → e ≡ true) × (g ≡ true → e ≡ true)
 lies_either e h g a = (λ x. grind (arith, a), λ x. grind (arith, a))
 
-own_inside : {K : Type 0} (k : ℕ) (c : Content K) → All (λ r. in_cell (cut k (extent c).code) (box_in c) r ≡ true) (inside c)
+own_inside : {K : Type 0} (k : ℕ) (c : Content K) → AllByRecursion (λ r. in_cell (cut k (extent c).code) (box_in c) r ≡ true) (inside c)
 own_inside k (reading r) = (holds_own k r.code, tt)
 own_inside k (box I) = tt
 
-pub celled_build : {K : Type 0} (n : ℕ) (C : Box) (c : Content K) (ps : List (Reading K)) → length ps ≤ n → All (λ r. Parts (extent c) (point_of r)) ps → Apart ps
-    → All (λ r. in_cell C (box_in c) r ≡ true) ps → All (λ r. in_cell C (box_in c) r ≡ true) (inside c) → Celled (build C c ps)
+pub celled_build : {K : Type 0} (n : ℕ) (C : Box) (c : Content K) (ps : List (Reading K)) → length ps ≤ n → AllByRecursion (λ r. Parts (extent c) (point_of r)) ps → Apart ps
+    → AllByRecursion (λ r. in_cell C (box_in c) r ≡ true) ps → AllByRecursion (λ r. in_cell C (box_in c) r ≡ true) (inside c) → Celled (build C c ps)
 celled_build n C c [] l a apart h w = w
 celled_build zero C c (p ∷ ps) l a apart h w = absurd (omega arith)
 celled_build {K} (suc n) C c (p ∷ ps) l a apart h w =
@@ -94,13 +94,13 @@ celled_build {K} (suc n) C c (p ∷ ps) l a apart h w =
     let R : Tree K = build G (reading p) (filter (lies G) ps) in
     let O : Tree K = build C (box E) (filter (outside E) ps) in
     let own : lies G p ≡ true = holds_own (suc E.depth) p.code in
-    let in_c : All P ((readings L ++ readings R) ++ readings O) =
+    let in_c : AllByRecursion P ((readings L ++ readings R) ++ readings O) =
     All-append P (readings L ++ readings R) (readings O)
     (All-append P (readings L) (readings R)
     (all_insert_all P (leaf H c) (filter (lies H) ps) w (all_kept_by (lies H) P ps h.1))
     (all_insert_all P (leaf G (reading p)) (filter (lies G) ps) (h.0, tt) (all_kept_by (lies G) P ps h.1)))
     (all_insert_all P (leaf C (box E)) (filter (outside E) ps) tt (all_kept_by (outside E) P ps h.1)) in
-    let inE : All Q (readings L ++ readings R) =
+    let inE : AllByRecursion Q (readings L ++ readings R) =
     All-append Q (readings L) (readings R)
     (all_insert_all Q (leaf H c) (filter (lies H) ps) (own_inside E.depth c)
     (all_kept_with P Q (lies H) (λ r i y. in_of C E (box_in c) r i ((each r).0 y)) ps h.1))

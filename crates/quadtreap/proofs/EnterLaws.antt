@@ -1,7 +1,7 @@
 -- Entering, by settling each pair on the way up, gives the tree of the readings by rank.
 use Rattle.std.proofs.Common.{◌≡◌, ℕ, zero, suc, ◌≤◌, Bool, true, false, cond, ◌&&◌, List, [], ◌∷◌, length, filter, sym, refl, ap, ◌∙◌, inl, inr, arith}
 use mathlib.Core.Option.{Option, none, some}
-use Rattle.std.specs.List.{AllByRecursion as All}
+use Rattle.std.specs.List.{AllByRecursion}
 use Rattle.std.proofs.lemmas.Bool.{cases_Bool, both_ways, and_parts, and_right, cond-true, cond-false}
 use Rattle.std.proofs.ByRecursion.{all_kept_by}
 use Rattle.place.specs.Boxes.{Box, holds, smallest, half}
@@ -89,7 +89,7 @@ module _ {K : Type 0} (C : Box) (c : Content K) (p : Reading K) where
       late (box I) h = refl
 
   -- what the children of the right pair are compared by
-  pub made_put : (q : Reading K) (ks : List (Reading K)) → Fits c p ks → All (λ r. before q r ≡ true) ks → Heads c (q ∷ ks)
+  pub made_put : (q : Reading K) (ks : List (Reading K)) → Fits c p ks → AllByRecursion (λ r. before q r ≡ true) ks → Heads c (q ∷ ks)
       → earlier_than (creation (exchanged_if (ahead p c) (build C c (put p ks)))) (some (rank_of q)) ≡ before p q
   made_put q ks f late heads =
       elim (cases_Bool (ahead p c)) [
@@ -100,7 +100,7 @@ module _ {K : Type 0} (C : Box) (c : Content K) (p : Reading K) where
       at : (l : List (Reading K)) (r : Reading K) (rs : List (Reading K)) → l ≡ r ∷ rs → Parts (extent c) (point_of r) → earlier_than (creation (build C c l)) (some (rank_of q)) ≡ before r q
       at l r rs e s = ap (λ m. earlier_than (creation (build C c m)) (some (rank_of q))) e ∙ ap (λ o. earlier_than o (some (rank_of q))) (creation_build C c r rs s) ∙ sym (before_is r q)
 
-      behind : (ks : List (Reading K)) → Fits c p ks → All (λ r. before q r ≡ true) ks → earlier_than (creation (build C c (put p ks))) (some (rank_of q)) ≡ before p q
+      behind : (ks : List (Reading K)) → Fits c p ks → AllByRecursion (λ r. before q r ≡ true) ks → earlier_than (creation (build C c (put p ks))) (some (rank_of q)) ≡ before p q
       behind [] f a = at (p ∷ []) p [] refl f.here
       behind (k ∷ ks) f a =
           elim (cases_Bool (before p k)) [

@@ -1,7 +1,7 @@
 -- The way down a tree finds the reading with a code.
 use Rattle.std.proofs.Common.{◌≡◌, ℕ, true, false, cond, eqb, ◌⊎◌, List, [], ◌∷◌, length, sym, refl, ap, ◌∙◌, inl, inr, arith}
 use mathlib.Core.Option.{none, some}
-use Rattle.std.specs.List.{AllByRecursion as All}
+use Rattle.std.specs.List.{AllByRecursion}
 use Rattle.std.proofs.lemmas.Bool.{cases_Bool, cond-true, cond-false, eqb-true}
 use Rattle.std.proofs.ByRecursion.{All-append, All-weaker}
 use Rattle.place.specs.Boxes.{whole, holds}
@@ -13,7 +13,7 @@ use Rattle.quadtreap.proofs.CellLaws.{all_parts, all_insert_all}
 use Rattle.quadtreap.proofs.InsideLaws.{Parted, parted_build}
 use Rattle.quadtreap.proofs.ValidLaws.{valid_cell, valid_celled, celled_outer, all_zip, all_from_insert_all}
 
-at_own : {K : Type 0} (t : Tree K) → Celled t → Parted t → All (λ r. content_at t r.code ≡ reading r) (readings t)
+at_own : {K : Type 0} (t : Tree K) → Celled t → Parted t → AllByRecursion (λ r. content_at t r.code ≡ reading r) (readings t)
 at_own (leaf C (reading r)) c p = (refl, tt)
 at_own (leaf C (box I)) c p = tt
 at_own (shrink C i x y) c p =
@@ -25,7 +25,7 @@ at_own (split C i x y) c p =
     (All-weaker _ _ (λ r h. rw h.0 h.1) (readings x) (all_zip _ _ (readings x) (celled_outer x c.1) (at_own x c.1 p.1)))
     (All-weaker _ _ (λ r h. rw h.0 h.1) (readings y) (all_zip _ _ (readings y) p.0 (at_own y c.2 p.2)))
 
-at_none : {K : Type 0} (t : Tree K) (k : ℕ) → All (λ r. eqb k r.code ≡ false) (readings t) → of_code k (content_at t k) ≡ none
+at_none : {K : Type 0} (t : Tree K) (k : ℕ) → AllByRecursion (λ r. eqb k r.code ≡ false) (readings t) → of_code k (content_at t k) ≡ none
 at_none (leaf C (reading r)) k a = cond-false _ _ _ a.0
 at_none (leaf C (box I)) k a = refl
 at_none (shrink C i x y) k a =
@@ -40,8 +40,8 @@ at_none (split C i x y) k a =
     elim (holds (outer x) k) as (λ v. of_code k (cond v (content_at x k) (content_at y k)) ≡ none) [ true ↦ u | false ↦ w ]
 
 -- the reading with the code k stands in the list, or none does
-looked : {K : Type 0} (P : Reading K → Type 0) (k : ℕ) (rs : List (Reading K)) → All P rs
-    → ((r : Reading K) × P r × (eqb k r.code ≡ true) × (lookup k rs ≡ some r)) ⊎ (All (λ r. eqb k r.code ≡ false) rs × (lookup k rs ≡ none))
+looked : {K : Type 0} (P : Reading K → Type 0) (k : ℕ) (rs : List (Reading K)) → AllByRecursion P rs
+    → ((r : Reading K) × P r × (eqb k r.code ≡ true) × (lookup k rs ≡ some r)) ⊎ (AllByRecursion (λ r. eqb k r.code ≡ false) rs × (lookup k rs ≡ none))
 looked P k [] a = inr (tt, refl)
 looked P k (r ∷ rs) a =
     elim (cases_Bool (eqb k r.code)) [

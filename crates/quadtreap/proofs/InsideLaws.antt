@@ -1,7 +1,7 @@
 -- Where the boxes of a tree lie.
 use Rattle.std.proofs.Common.{◌≡◌, ℕ, zero, suc, ◌^◌, ◌<◌, ◌≤◌, min, Bool, true, false, List, [], ◌∷◌, length, filter, sym, refl, ◌∙◌, subst, inl, inr, arith}
 use mathlib.Core.Option.{some}
-use Rattle.std.specs.List.{AllByRecursion as All}
+use Rattle.std.specs.List.{AllByRecursion}
 use Rattle.std.proofs.lemmas.Bool.{cases_lt, both_ways, not-true, and_parts, and_from}
 use Rattle.std.proofs.ByRecursion.{all_kept_by, All-weaker, kept_by_passes}
 use Rattle.place.specs.Boxes.{prefix, Box, cut, holds, within, smallest, half, Formed}
@@ -20,10 +20,10 @@ pub record Cell {K : Type 0} (C : Box) (c : Content K) (ps : List (Reading K)) :
   pub formed : Formed C
   pub around : within (extent c) C ≡ true
   pub small : (extent c).code < 2 ^ 32
-  pub all : All (λ r. Parts (extent c) (point_of r)) ps
+  pub all : AllByRecursion (λ r. Parts (extent c) (point_of r)) ps
   pub apart : Apart ps
-  pub here : All (λ r. in_cell C (box_in c) r ≡ true) ps
-  pub codes : All (λ r. r.code < 2 ^ 32) ps
+  pub here : AllByRecursion (λ r. in_cell C (box_in c) r ≡ true) ps
+  pub codes : AllByRecursion (λ r. r.code < 2 ^ 32) ps
 
 deeper : {K : Type 0} (C : Box) (c : Content K) (p : Reading K) → Parts (extent c) (point_of p) → in_cell C (box_in c) p ≡ true → suc (smallest (extent c) (point_of p)).depth ≤ (extent c).depth
 deeper C (reading r) p s h = s.low
@@ -235,8 +235,8 @@ boxed_build = by_cells (λ C c t. Boxed t) (λ C c f. f.formed) (λ C c p ps f l
 -- the readings of the second child lie outside the first one's box
 abbrev pub Parted : {K : Type 0} → Tree K → Type 0
 Parted (leaf C c) = Unit {0}
-Parted (shrink C i a b) = All (λ r. lies (outer a) r ≡ false) (readings b) × Parted a × Parted b
-Parted (split E i a b) = All (λ r. lies (outer a) r ≡ false) (readings b) × Parted a × Parted b
+Parted (shrink C i a b) = AllByRecursion (λ r. lies (outer a) r ≡ false) (readings b) × Parted a × Parted b
+Parted (split E i a b) = AllByRecursion (λ r. lies (outer a) r ≡ false) (readings b) × Parted a × Parted b
 
 pub parted_build : {K : Type 0} (n : ℕ) (C : Box) (c : Content K) (ps : List (Reading K)) → length ps ≤ n → Cell C c ps → Parted (build C c ps)
 parted_build {K} = by_cells (λ C c t. Parted t) (λ C c f. tt) more
@@ -254,10 +254,10 @@ parted_build {K} = by_cells (λ C c t. Parted t) (λ C c f. tt) more
         let H : Box = half E (extent c) in
         let G : Box = half E (point_of p) in
         let off : (x : Reading K) → lies G x ≡ true → lies H x ≡ false = λ x g. grind (arith, halves E.depth (extent c).code p.code f.all.0 x.code) in
-        let out : All (λ x. lies E x ≡ false) (readings (build C (box E) (filter (outside E) ps))) =
+        let out : AllByRecursion (λ x. lies E x ≡ false) (readings (build C (box E) (filter (outside E) ps))) =
         all_insert_all (λ x. lies E x ≡ false) (leaf C (box E)) (filter (outside E) ps) tt
         (All-weaker (λ x. outside E x ≡ true) (λ x. lies E x ≡ false) (λ x e. not-true (lies E x) e) (filter (outside E) ps) (kept_by_passes (outside E) ps)) in
-        let far : All (λ x. lies H x ≡ false) (readings (build G (reading p) (filter (lies G) ps))) =
+        let far : AllByRecursion (λ x. lies H x ≡ false) (readings (build G (reading p) (filter (lies G) ps))) =
         all_insert_all (λ x. lies H x ≡ false) (leaf G (reading p)) (filter (lies G) ps) (off p (holds_own (suc E.depth) p.code), tt)
         (All-weaker (λ x. lies G x ≡ true) (λ x. lies H x ≡ false) off (filter (lies G) ps) (kept_by_passes (lies G) ps)) in
         (out, (rw (outer_insert_all (leaf H c) (filter (lies H) ps)) far, l, r), o)

@@ -1,7 +1,7 @@
 -- The direct description of the tree is the tree of insertion.
 use Rattle.std.proofs.Common.{◌≡◌, ℕ, zero, suc, ◌<◌, List, [], ◌∷◌, length, filter, sym, refl, ap, ◌∙◌, arith}
 use mathlib.Core.Option.{none, some}
-use Rattle.std.specs.List.{AllByRecursion as All}
+use Rattle.std.specs.List.{AllByRecursion}
 use Rattle.std.proofs.lemmas.Bool.{not-true}
 use Rattle.std.proofs.ByRecursion.{all_kept_by}
 use Rattle.place.specs.Boxes.{Box, whole, smallest, half}
@@ -27,7 +27,7 @@ lay_cons : {K : Type 0} (n : ℕ) (C : Box) (c : Content K) (p : Reading K) (ps 
 lay_cons n C (reading r) p ps = refl
 lay_cons n C (box I) p ps = refl
 
-pub lay_build : {K : Type 0} (n : ℕ) (C : Box) (c : Content K) (ps : List (Reading K)) → length ps < n → All (λ r. Parts (extent c) (point_of r)) ps → Apart ps
+pub lay_build : {K : Type 0} (n : ℕ) (C : Box) (c : Content K) (ps : List (Reading K)) → length ps < n → AllByRecursion (λ r. Parts (extent c) (point_of r)) ps → Apart ps
     → lay n C c ps ≡ build C c ps
 lay_build zero C c ps l a apart = absurd (omega arith)
 lay_build (suc n) C (reading r) [] l a apart = refl

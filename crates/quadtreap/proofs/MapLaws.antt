@@ -1,7 +1,7 @@
 -- Entering into a map and striking from one.
 use Rattle.std.proofs.Common.{◌≡◌, ◌+◌, ◌*◌, true, false, cond, not, eqb, List, [], ◌∷◌, length, sym, refl, ap, ◌∙◌, inl, inr, arith}
 use mathlib.Core.Option.{none, some}
-use Rattle.std.specs.List.{AllByRecursion as All}
+use Rattle.std.specs.List.{AllByRecursion}
 use Rattle.std.proofs.lemmas.Bool.{cases_Bool, cond-false}
 use Rattle.place.specs.Boxes.{whole}
 use Rattle.quadtreap.specs.Tree.{Reading, reading, leaf, point_of, build, tree_of, nodes}
@@ -20,7 +20,7 @@ use Rattle.quadtreap.proofs.EnterLaws.{enter_build, enter_plug, enter_plug_all}
 use Rattle.quadtreap.proofs.StrikeLaws.{struck, strike_build, strike_on, strike_done, strike_fewer, without_rest}
 use Rattle.quadtreap.proofs.ValidLaws.{valid_apart}
 
-flips : {K : Type 0} (p : Reading K) (rs : List (Reading K)) → All (λ r. Parts (point_of p) (point_of r)) rs → All (λ r. Parts (point_of r) (point_of p)) rs
+flips : {K : Type 0} (p : Reading K) (rs : List (Reading K)) → AllByRecursion (λ r. Parts (point_of p) (point_of r)) rs → AllByRecursion (λ r. Parts (point_of r) (point_of p)) rs
 flips p [] a = tt
 flips p (r ∷ rs) a = (Parts-flip p.code r.code a.0, flips p rs a.1)
 

@@ -1,6 +1,6 @@
 -- Rank order, and where a reading is put in a list and in each part of it.
 use Rattle.std.proofs.Common.{◌≡◌, Bool, true, false, cond, List, [], ◌∷◌, filter, sym, refl, ap, ◌∙◌, inl, inr, arith}
-use Rattle.std.specs.List.{AllByRecursion as All}
+use Rattle.std.specs.List.{AllByRecursion}
 use Rattle.std.proofs.lemmas.Bool.{cases_Bool}
 use Rattle.std.proofs.lemmas.Bool.Decides.{nat_tests}
 use Rattle.std.proofs.ByRecursion.{all_kept_by}
@@ -27,12 +27,12 @@ pub before_asym : {K : Type 0} (p q : Reading K) → before p q ≡ true → bef
 unfolding before
 before_asym p q h = earlier_asym (rank_of p) (rank_of q) h
 
-pub all_before : {K : Type 0} (p q : Reading K) → before p q ≡ true → (qs : List (Reading K)) → All (λ r. before q r ≡ true) qs → All (λ r. before p r ≡ true) qs
+pub all_before : {K : Type 0} (p q : Reading K) → before p q ≡ true → (qs : List (Reading K)) → AllByRecursion (λ r. before q r ≡ true) qs → AllByRecursion (λ r. before p r ≡ true) qs
 all_before p q h [] a = tt
 all_before p q h (r ∷ rs) a = (before_trans p q r h a.0, all_before p q h rs a.1)
 
 -- before all, it goes in front
-pub put_front : {K : Type 0} (p : Reading K) (qs : List (Reading K)) → All (λ r. before p r ≡ true) qs → put p qs ≡ p ∷ qs
+pub put_front : {K : Type 0} (p : Reading K) (qs : List (Reading K)) → AllByRecursion (λ r. before p r ≡ true) qs → put p qs ≡ p ∷ qs
 put_front p [] a = refl
 put_front p (q ∷ qs) a = rw a.0
 
@@ -59,7 +59,7 @@ keep_put_yes f p e (q ∷ qs) a =
     let ih = keep_put_yes f p e qs a.1 in
     elim (cases_Bool (before p q)) [
       | inl h ↦
-          let all : All (λ r. before p r ≡ true) (q ∷ qs) = (h, all_before p q h qs a.0) in
+          let all : AllByRecursion (λ r. before p r ≡ true) (q ∷ qs) = (h, all_before p q h qs a.0) in
           ap (filter f) (put_front p (q ∷ qs) all) ∙ ap (λ v. cond v (p ∷ filter f (q ∷ qs)) (filter f (q ∷ qs))) e
           ∙ sym (put_front p (filter f (q ∷ qs)) (all_kept_by f (λ r. before p r ≡ true) (q ∷ qs) all))
       | inr h ↦ rw h (rw ih (step h))

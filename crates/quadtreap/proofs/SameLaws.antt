@@ -1,6 +1,6 @@
 -- Lists in rank order with the same members are equal, and every list can be brought into rank order.
 use Rattle.std.proofs.Common.{◌≡◌, Bool, true, false, cond, List, [], ◌∷◌, filter, sym, refl, ap, ◌∙◌, subst, ap₂, inl, inr}
-use Rattle.std.specs.List.{AllByRecursion as All}
+use Rattle.std.specs.List.{AllByRecursion}
 use Rattle.std.proofs.lemmas.Bool.{cases_Bool, both_ways}
 use Rattle.std.proofs.ByRecursion.{all_kept_by}
 use Rattle.quadtreap.specs.Tree.{Reading, tree_of, map_height}
@@ -11,7 +11,7 @@ use Rattle.quadtreap.specs.Laws.{StaysRanked, SortsByRank}
 use Rattle.quadtreap.proofs.RankLaws.{put_front, before_asym, before_total, all_before, ranked_kept}
 
 module _ {K : Type 0} where
-  all_among : (P : Reading K → Type 0) (r : Reading K) (xs : List (Reading K)) → All P xs → Among r xs → P r
+  all_among : (P : Reading K → Type 0) (r : Reading K) (xs : List (Reading K)) → AllByRecursion P xs → Among r xs → P r
   all_among P r [] a m = absurd m
   all_among P r (x ∷ xs) a (inl e) = subst P e a.0
   all_among P r (x ∷ xs) a (inr m) = all_among P r xs a.1 m
@@ -20,14 +20,14 @@ module _ {K : Type 0} where
   not_itself r h = both_ways (before r r) (before_asym r r h) h
 
   -- the first of two lists with the same members
-  same_first : (x y : Reading K) (xs ys : List (Reading K)) → All (λ r. before x r ≡ true) xs → All (λ r. before y r ≡ true) ys → Among x (y ∷ ys) → Among y (x ∷ xs) → x ≡ y
+  same_first : (x y : Reading K) (xs ys : List (Reading K)) → AllByRecursion (λ r. before x r ≡ true) xs → AllByRecursion (λ r. before y r ≡ true) ys → Among x (y ∷ ys) → Among y (x ∷ xs) → x ≡ y
   same_first x y xs ys a b (inl e) n = sym e
   same_first x y xs ys a b (inr m) (inl e) = e
   same_first x y xs ys a b (inr m) (inr n) =
       absurd (both_ways (before y x) (before_asym x y (all_among (λ r. before x r ≡ true) y xs a n)) (all_among (λ r. before y r ≡ true) x ys b m))
 
   -- a later member of one list is a later member of the other
-  later : (x y r : Reading K) (xs ys : List (Reading K)) → x ≡ y → All (λ r. before x r ≡ true) xs → Among r xs → Among r (y ∷ ys) → Among r ys
+  later : (x y r : Reading K) (xs ys : List (Reading K)) → x ≡ y → AllByRecursion (λ r. before x r ≡ true) xs → Among r xs → Among r (y ∷ ys) → Among r ys
   later x y r xs ys e a m (inl d) = absurd (not_itself r (subst (λ z. before z r ≡ true) (e ∙ d) (all_among (λ r. before x r ≡ true) r xs a m)))
   later x y r xs ys e a m (inr n) = n
 
@@ -44,12 +44,12 @@ pub same_readings : {K : Type 0} → SameReadings K
 same_readings xs ys a b s =
     let e = same_list xs ys a b s in (e, ap tree_of e, λ join n q. ap (λ l. map_walk join n q (tree_of l)) e, ap (λ l. map_height (tree_of l)) e)
 
-all_put : {K : Type 0} (P : Reading K → Type 0) (p : Reading K) (rs : List (Reading K)) → P p → All P rs → All P (put p rs)
+all_put : {K : Type 0} (P : Reading K → Type 0) (p : Reading K) (rs : List (Reading K)) → P p → AllByRecursion P rs → AllByRecursion P (put p rs)
 all_put P p [] h a = (h, tt)
 all_put P p (r ∷ rs) h a =
-    elim (before p r) as (λ v. All P (cond v (p ∷ r ∷ rs) (r ∷ put p rs))) [ true ↦ (h, a) | false ↦ (a.0, all_put P p rs h a.1) ]
+    elim (before p r) as (λ v. AllByRecursion P (cond v (p ∷ r ∷ rs) (r ∷ put p rs))) [ true ↦ (h, a) | false ↦ (a.0, all_put P p rs h a.1) ]
 
-pub ranked_put : {K : Type 0} (p : Reading K) (rs : List (Reading K)) → All (λ r. p.code ≡ r.code → ⊥) rs → Ranked rs → Ranked (put p rs)
+pub ranked_put : {K : Type 0} (p : Reading K) (rs : List (Reading K)) → AllByRecursion (λ r. p.code ≡ r.code → ⊥) rs → Ranked rs → Ranked (put p rs)
 ranked_put p [] d a = (tt, tt)
 ranked_put p (r ∷ rs) d a =
     elim (cases_Bool (before p r)) [
@@ -91,7 +91,7 @@ among_put p (q ∷ qs) x =
       )
     ]
 
-all_sorted : {K : Type 0} (P : Reading K → Type 0) (rs : List (Reading K)) → All P rs → All P (in_rank_order rs)
+all_sorted : {K : Type 0} (P : Reading K → Type 0) (rs : List (Reading K)) → AllByRecursion P rs → AllByRecursion P (in_rank_order rs)
 all_sorted P [] a = tt
 all_sorted P (r ∷ rs) a = all_put P r (in_rank_order rs) a.0 (all_sorted P rs a.1)
 

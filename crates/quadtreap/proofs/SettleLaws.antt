@@ -1,6 +1,6 @@
 -- A reading on its way to its rank: what becomes of a pair when a child has changed.
 use Rattle.std.proofs.Common.{◌≡◌, Bool, true, false, cond, List, ◌∷◌, filter, sym, refl, ap, ◌∙◌, inl, inr}
-use Rattle.std.specs.List.{AllByRecursion as All}
+use Rattle.std.specs.List.{AllByRecursion}
 use Rattle.std.proofs.lemmas.Bool.{not-true, cases_Bool, both_ways}
 use Rattle.std.proofs.ByRecursion.{all_kept_by}
 use Rattle.place.specs.Boxes.{Box, smallest, half}
@@ -24,7 +24,7 @@ exchanged_if b t = cond b (exchanged t) t
 
 -- what a reading c ranks before
 abbrev pub Heads : {K : Type 0} → Content K → List (Reading K) → Type 0
-Heads (reading r) qs = All (λ q. before r q ≡ true) qs
+Heads (reading r) qs = AllByRecursion (λ q. before r q ≡ true) qs
 Heads (box I) qs = Unit {0}
 
 pub heads_kept : {K : Type 0} (f : Reading K → Bool) (c : Content K) (qs : List (Reading K)) → Heads c qs → Heads c (filter f qs)
@@ -42,8 +42,8 @@ heads_before (box I) p q qs h a = absurd (both_ways false refl a)
 -- a cell's content and its readings, and one that is to come
 pub record Fits {K : Type 0} (c : Content K) (p : Reading K) (ps : List (Reading K)) : Type 0 where
   pub here : Parts (extent c) (point_of p)
-  pub all : All (λ r. Parts (extent c) (point_of r)) ps
-  pub clear : All (λ r. Parts (point_of r) (point_of p)) ps
+  pub all : AllByRecursion (λ r. Parts (extent c) (point_of r)) ps
+  pub clear : AllByRecursion (λ r. Parts (point_of r) (point_of p)) ps
   pub apart : Apart ps
   pub rank : Ranked ps
   pub heads : Heads c ps

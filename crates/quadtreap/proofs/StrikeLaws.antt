@@ -1,7 +1,7 @@
 -- Striking in one way down gives the tree of the other readings.
 use Rattle.std.proofs.Common.{◌≡◌, ℕ, zero, suc, ◌<◌, ◌≤◌, Bool, true, false, not, ◌&&◌, eqb, List, [], ◌∷◌, length, filter, sym, refl, ap, ◌∙◌, subst, inl, inr, arith}
 use mathlib.Core.Option.{Option, none, some}
-use Rattle.std.specs.List.{AllByRecursion as All}
+use Rattle.std.specs.List.{AllByRecursion}
 use Rattle.std.proofs.lemmas.Bool.{not-true, cases_Bool, both_ways, and_from, cond-true, cond-false, cond_both, and_left, and_right, eqb-true, ne_eqb}
 use Rattle.std.proofs.ByRecursion.{all_kept_by, All-weaker}
 use Rattle.place.specs.Boxes.{prefix, Box, point, holds, smallest, half}
@@ -23,20 +23,20 @@ abbrev head_rank : {K : Type 0} → List (Reading K) → Option Rank
 head_rank [] = none
 head_rank (q ∷ qs) = some (rank_of q)
 
-creation_head : {K : Type 0} (C : Box) (c : Content K) (ps : List (Reading K)) → All (λ r. Parts (extent c) (point_of r)) ps → creation (build C c ps) ≡ head_rank ps
+creation_head : {K : Type 0} (C : Box) (c : Content K) (ps : List (Reading K)) → AllByRecursion (λ r. Parts (extent c) (point_of r)) ps → creation (build C c ps) ≡ head_rank ps
 creation_head C c [] a = refl
 creation_head C c (q ∷ ps) a = creation_build C c q ps a.0
 
 module _ {K : Type 0} (q : Reading K) where
-  earlier_than_yes : (ps : List (Reading K)) → All (λ r. before q r ≡ true) ps → earlier_than (some (rank_of q)) (head_rank ps) ≡ true
+  earlier_than_yes : (ps : List (Reading K)) → AllByRecursion (λ r. before q r ≡ true) ps → earlier_than (some (rank_of q)) (head_rank ps) ≡ true
   earlier_than_yes [] a = refl
   earlier_than_yes (r ∷ ps) a = sym (before_is q r) ∙ a.0
 
-  earlier_than_no : (ps : List (Reading K)) → All (λ r. before q r ≡ true) ps → earlier_than (head_rank ps) (some (rank_of q)) ≡ false
+  earlier_than_no : (ps : List (Reading K)) → AllByRecursion (λ r. before q r ≡ true) ps → earlier_than (head_rank ps) (some (rank_of q)) ≡ false
   earlier_than_no [] a = refl
   earlier_than_no (r ∷ ps) a = sym (before_is r q) ∙ before_asym q r a.0
 
-  module _ (xs ys : List (Reading K)) (ax : All (λ r. before q r ≡ true) xs) (ay : All (λ r. before q r ≡ true) ys) where
+  module _ (xs ys : List (Reading K)) (ax : AllByRecursion (λ r. before q r ≡ true) xs) (ay : AllByRecursion (λ r. before q r ≡ true) ys) where
     least_yes : least_of (some (rank_of q)) (head_rank xs) (head_rank ys) ≡ true
     least_yes = and_from _ _ (earlier_than_yes xs ax) (earlier_than_yes ys ay)
 
@@ -62,7 +62,7 @@ module _ {K : Type 0} (x : Tree K) (r : Rank) where
   low_outer e = and_right (is_leaf (left_of x)) _ (and_right (is_leaf (right_of x)) _ (no_leaf (second x) r e))
 
 -- what a pair does, by the heads of its children; q is the first of all that come after the struck reading
-module _ {K : Type 0} (x : Tree K) (q : Reading K) (xs ys : List (Reading K)) (ax : All (λ r. before q r ≡ true) xs) (ay : All (λ r. before q r ≡ true) ys) where
+module _ {K : Type 0} (x : Tree K) (q : Reading K) (xs ys : List (Reading K)) (ax : AllByRecursion (λ r. before q r ≡ true) xs) (ay : AllByRecursion (λ r. before q r ≡ true) ys) where
   right_left : creation (left_of x) ≡ some (rank_of q) → creation (right_of x) ≡ head_rank xs → creation (second x) ≡ head_rank ys → sink_right x ≡ to_outer (promote_left x)
   right_left a b c = cond-false _ _ _ (low_left x (rank_of q) a) ∙ rw (a, b, c) (cond-true _ _ _ (least_yes q xs ys ax ay))
 
@@ -88,8 +88,8 @@ module _ {K : Type 0} (x : Tree K) (q : Reading K) (xs ys : List (Reading K)) (a
 -- a cell, the reading p that is to go, and those that come after it
 pub record Sits {K : Type 0} (c : Content K) (p : Reading K) (ps : List (Reading K)) : Type 0 where
   pub here : Parts (extent c) (point_of p)
-  pub all : All (λ r. Parts (extent c) (point_of r)) ps
-  pub far : All (λ r. Parts (point_of p) (point_of r)) ps
+  pub all : AllByRecursion (λ r. Parts (extent c) (point_of r)) ps
+  pub far : AllByRecursion (λ r. Parts (point_of p) (point_of r)) ps
   pub apart : Apart ps
   pub rank : Ranked ps
 
@@ -196,7 +196,7 @@ module _ {K : Type 0} (C : Box) (c : Content K) (p q : Reading K) (qs : List (Re
         ∙ pair_eq refl (ap g (first_two_exchanged G q p (filter (lies G) qs) sits_right.here) ∙ ih) refl
         ∙ sym (far_rest there tests)
 
-  later : (h : Reading K → Bool) → All (λ r. before q r ≡ true) (filter h qs)
+  later : (h : Reading K → Bool) → AllByRecursion (λ r. before q r ≡ true) (filter h qs)
   later h = all_kept_by h (λ r. before q r ≡ true) qs f.rank.0
 
   left_head : creation (left_of x) ≡ head_rank (filter (lies H) (q ∷ qs))
@@ -354,11 +354,11 @@ keep_other {K} g k n ps = keep_keep (λ r. g r.code) (other k) (λ r. g r.code) 
           | inr e ↦ rw e
         ]
 
-without_all : {K : Type 0} (k : ℕ) (ps : List (Reading K)) → All (λ r. eqb k r.code ≡ false) ps → without k ps ≡ ps
+without_all : {K : Type 0} (k : ℕ) (ps : List (Reading K)) → AllByRecursion (λ r. eqb k r.code ≡ false) ps → without k ps ≡ ps
 without_all k [] a = refl
 without_all k (p ∷ ps) a = rw a.0 (ap (λ l. p ∷ l) (without_all k ps a.1))
 
-pub without_rest : {K : Type 0} (q : Reading K) (k : ℕ) → eqb k q.code ≡ true → (ps : List (Reading K)) → All (λ r. Parts (point_of q) (point_of r)) ps → without k ps ≡ ps
+pub without_rest : {K : Type 0} (q : Reading K) (k : ℕ) → eqb k q.code ≡ true → (ps : List (Reading K)) → AllByRecursion (λ r. Parts (point_of q) (point_of r)) ps → without k ps ≡ ps
 without_rest q k e ps a =
     without_all k ps (All-weaker (λ r. Parts (point_of q) (point_of r)) (λ r. eqb k r.code ≡ false)
     (λ r s. ne_eqb k r.code (λ d. parts_differ q.code r.code s (sym (eqb-true k q.code e) ∙ d))) ps a)
@@ -407,7 +407,7 @@ module _ {K : Type 0} (C : Box) (c : Content K) (q : Reading K) (ps : List (Read
       ∙ sym (rest_is ∙ pair_eq (ap (build H₂ c) (keep_other (holds H₂) k b ps)) (ap (build G₂ (reading q)) (keep_other (holds G₂) k d ps)) (ap (build C (box E₂)) (keep_swap (outside E₂) (other k) ps)))
 
 pub strike_build : {K : Type 0} (n : ℕ) (C : Box) (c : Content K) (ps : List (Reading K)) (k : ℕ) → length ps ≤ n → holds_code k c ≡ false
-    → Ranked ps → All (λ r. Parts (extent c) (point_of r)) ps → Apart ps → strike_in n (build C c ps) k ≡ build C c (without k ps)
+    → Ranked ps → AllByRecursion (λ r. Parts (extent c) (point_of r)) ps → Apart ps → strike_in n (build C c ps) k ≡ build C c (without k ps)
 strike_build zero C c [] k l h rank a apart = refl
 strike_build (suc n) C c [] k l h rank a apart = refl
 strike_build zero C c (q ∷ ps) k l h rank a apart = absurd (omega arith)

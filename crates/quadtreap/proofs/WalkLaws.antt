@@ -1,6 +1,6 @@
 -- A walk counts each reading once, and depends on its tests at boxes and codes of the tree only.
 use Rattle.std.proofs.Common.{◌≡◌, ℕ, ◌^◌, ◌<◌, Bool, true, false, cond, List, [], ◌∷◌, ◌++◌, length, sym, refl, ap, ◌∙◌, ap₂, inl, inr, arith}
-use Rattle.std.specs.List.{AllByRecursion as All}
+use Rattle.std.specs.List.{AllByRecursion}
 use Rattle.std.proofs.lemmas.Bool.{cases_Bool, both_ways}
 use Rattle.std.proofs.ByRecursion.{All-append, All-weaker}
 use Rattle.place.specs.Codes.{code_of}
@@ -62,9 +62,9 @@ module _ (q : Tests) (inner outer' : ℕ → Bool) (tells : Truthful q inner out
     abbrev Small : Reading K → Type 0
     Small r = r.code < 2 ^ 32
 
-    fair_node : (B : Box) (a b : Tree K) → Formed B → All Small (readings a ++ readings b) → All (λ r. lies B r ≡ true) (readings a ++ readings b)
-        → All (λ r. lies (outer a) r ≡ true) (readings a) → All (λ r. lies (outer a) r ≡ false) (readings b) → All (Fairly a) (readings a) → All (Fairly b) (readings b)
-        → All (λ r. Fair (inner r.code) (outer' r.code) (pick (q.misses B) (q.held B) (cond (lies (outer a) r) (picked q a r.code) (picked q b r.code)))) (readings a ++ readings b)
+    fair_node : (B : Box) (a b : Tree K) → Formed B → AllByRecursion Small (readings a ++ readings b) → AllByRecursion (λ r. lies B r ≡ true) (readings a ++ readings b)
+        → AllByRecursion (λ r. lies (outer a) r ≡ true) (readings a) → AllByRecursion (λ r. lies (outer a) r ≡ false) (readings b) → AllByRecursion (Fairly a) (readings a) → AllByRecursion (Fairly b) (readings b)
+        → AllByRecursion (λ r. Fair (inner r.code) (outer' r.code) (pick (q.misses B) (q.held B) (cond (lies (outer a) r) (picked q a r.code) (picked q b r.code)))) (readings a ++ readings b)
     fair_node B a b f s l i o x y =
         let ss = all_parts Small (readings a) (readings b) s in
         let ll = all_parts (λ r. lies B r ≡ true) (readings a) (readings b) l in
@@ -74,7 +74,7 @@ module _ (q : Tests) (inner outer' : ℕ → Bool) (tells : Truthful q inner out
         (All-weaker _ _ (λ r (h : (Small r × (lies B r ≡ true)) × ((lies (outer a) r ≡ false) × Fairly b r)). fair_second B a b r f h.0.0 h.0.1 h.1.0 h.1.1) (readings b)
         (all_zip _ _ (readings b) (all_zip _ _ (readings b) ss.1 ll.1) (all_zip _ _ (readings b) o y)))
 
-    fair_tree : (t : Tree K) → Boxed t → Celled t → Parted t → All Small (readings t) → All (Fairly t) (readings t)
+    fair_tree : (t : Tree K) → Boxed t → Celled t → Parted t → AllByRecursion Small (readings t) → AllByRecursion (Fairly t) (readings t)
     fair_tree (leaf C (reading r)) b c p s =
         (fair_at C r.code (q.has r.code) b s.0 c.0 (λ i. tells.has r.code s.0 ∙ i, λ w. tells.part r.code s.0 (sym (tells.has r.code s.0) ∙ w)), tt)
     fair_tree (leaf C (box I)) b c p s = tt
@@ -88,7 +88,7 @@ module _ (q : Tests) (inner outer' : ℕ → Bool) (tells : Truthful q inner out
 -- the tally of a walk, as a sum over the leaves
 
 module _ {K : Type 0} (join : K → K → K) (e : K) (laws : Joins join e) where
-  total_same : (f g : Reading K → K) (t : Tree K) → All (λ r. f r ≡ g r) (readings t) → total join e f t ≡ total join e g t
+  total_same : (f g : Reading K → K) (t : Tree K) → AllByRecursion (λ r. f r ≡ g r) (readings t) → total join e f t ≡ total join e g t
   total_same f g (leaf C (reading r)) a = a.0
   total_same f g (leaf C (box I)) a = refl
   total_same f g (shrink C i x y) a =
@@ -115,10 +115,10 @@ module _ {K : Type 0} (join : K → K → K) (e : K) (laws : Joins join e) where
   abbrev either : Tests → Tree K → Tree K → ℕ → Bool
   either q a b k = cond (holds (outer a) k) (picked q a k) (picked q b k)
 
-  only_first : (q : Tests) (a b : Tree K) → All (λ r. lies (outer a) r ≡ true) (readings a) → total join e (only (picked q a)) a ≡ total join e (only (either q a b)) a
+  only_first : (q : Tests) (a b : Tree K) → AllByRecursion (λ r. lies (outer a) r ≡ true) (readings a) → total join e (only (picked q a)) a ≡ total join e (only (either q a b)) a
   only_first q a b i = total_same _ _ a (All-weaker _ _ (λ r (h : lies (outer a) r ≡ true). sym (rw h)) (readings a) i)
 
-  only_second : (q : Tests) (a b : Tree K) → All (λ r. lies (outer a) r ≡ false) (readings b) → total join e (only (picked q b)) b ≡ total join e (only (either q a b)) b
+  only_second : (q : Tests) (a b : Tree K) → AllByRecursion (λ r. lies (outer a) r ≡ false) (readings b) → total join e (only (picked q b)) b ≡ total join e (only (either q a b)) b
   only_second q a b o = total_same _ _ b (All-weaker _ _ (λ r (h : lies (outer a) r ≡ false). sym (rw h)) (readings b) o)
 
   walk_total : (q : Tests) (t : Tree K) → Celled t → Parted t → (walk join e q t).tally ≡ total join e (only (picked q t)) t
@@ -165,7 +165,7 @@ totals join e laws = (tally_readings join e laws, tally_map join e laws)
 
 -- a walk by truthful tests joins the readings of a set of codes between the two
 pub counts_truthful : {K : Type 0} (join : K → K → K) (e : K) → Joins join e → (q : Tests) (inner outer' : ℕ → Bool) → Truthful q inner outer' → (rs : List (Reading K)) → Valid rs
-    → (s : ℕ → Bool) × All (λ r. Fair (inner r.code) (outer' r.code) (s r.code)) rs × ((map_walk join e q (tree_of rs)).tally ≡ joined join e (by_code s) rs)
+    → (s : ℕ → Bool) × AllByRecursion (λ r. Fair (inner r.code) (outer' r.code) (s r.code)) rs × ((map_walk join e q (tree_of rs)).tally ≡ joined join e (by_code s) rs)
 counts_truthful join e laws q inner outer' tells [] v = (λ k. false, tt, refl)
 counts_truthful {K} join e laws q inner outer' tells (r ∷ rs) v =
     let t : Tree K = build whole (reading r) rs in
@@ -178,7 +178,7 @@ counts_truthful {K} join e laws q inner outer' tells (r ∷ rs) v =
       walk_total join e laws q t celled parted ∙ total_insert_all join e laws (picked q t) (leaf whole (reading r)) rs ∙ joined_first join e laws (picked q t) r rs,
     )
 
-joined_same : {K : Type 0} (join : K → K → K) (e : K) (f g : Reading K → Bool) (rs : List (Reading K)) → All (λ r. f r ≡ g r) rs → joined join e f rs ≡ joined join e g rs
+joined_same : {K : Type 0} (join : K → K → K) (e : K) (f g : Reading K → Bool) (rs : List (Reading K)) → AllByRecursion (λ r. f r ≡ g r) rs → joined join e f rs ≡ joined join e g rs
 joined_same join e f g [] a = refl
 joined_same join e f g (r ∷ rs) a = rw (a.0, joined_same join e f g rs a.1)
 
@@ -187,7 +187,7 @@ counts_each_once {K} join e laws inner outer' sub rs v =
     let c = counts_truthful join e laws (asked inner outer') (codes_in inner) (codes_in outer') (asked_truthful inner outer' sub) rs v in
     let s : ℕ → Bool = c.0 in
     let S : Places = λ m r. s (code_of m r) in
-    let at : All (λ r. is_in S r ≡ s r.code) rs = All-weaker _ _ (λ r l. ap s (code_of_lem r.code l)) rs (valid_codes rs v) in (
+    let at : AllByRecursion (λ r. is_in S r ≡ s r.code) rs = All-weaker _ _ (λ r l. ap s (code_of_lem r.code l)) rs (valid_codes rs v) in (
       S,
       All-weaker _ _ (λ r (h : (is_in S r ≡ s r.code) × Fair (is_in inner r) (is_in outer' r) (s r.code)). ((λ i. h.0 ∙ h.1.0 i), (λ i. h.1.1 (sym h.0 ∙ i)))) rs
           (all_zip _ _ rs at c.1),
@@ -200,7 +200,7 @@ module _ {K : Type 0} (join : K → K → K) (e : K) (p q : Tests) (agree : Agre
   met_same : (C : Box) (own : K) (x y : Answer K) → Formed C → x ≡ y → met e p C own x ≡ met e q C own y
   met_same C own x y f h = rw (agree.misses C f, agree.held C f, h)
 
-  walk_same : (t : Tree K) → Boxed t → All (λ r. r.code < 2 ^ 32) (readings t) → walk join e p t ≡ walk join e q t
+  walk_same : (t : Tree K) → Boxed t → AllByRecursion (λ r. r.code < 2 ^ 32) (readings t) → walk join e p t ≡ walk join e q t
   walk_same (leaf C (reading r)) b s = met_same C _ _ _ b (ap (λ v. answer (cond v r.tally e) 0) (agree.has r.code s.0))
   walk_same (leaf C (box I)) b s = met_same C _ _ _ b refl
   walk_same (shrink C i x y) b s =

@@ -4,7 +4,7 @@
 --   total              something joined over the leaves under a node
 use Rattle.std.specs.Prelude.{◌≡◌, Bool, true, ◌&&◌, List, [], ◌∷◌, ◌++◌}
 use Rattle.std.proofs.Math.Option.{Option, none, some}
-use Rattle.std.specs.List.{AllByRecursion as All}
+use Rattle.std.specs.List.{AllByRecursion}
 use Rattle.place.specs.Boxes.{Box}
 use Rattle.quadtreap.specs.Tree.{Reading, Content, reading, box, Tree, leaf, shrink, split, lies, outside, box_in}
 
@@ -26,9 +26,9 @@ in_cell C (some I) r = lies C r && outside I r
 
 -- The readings under each node lie in its cell.
 abbrev pub Celled : {K : Type 0} → Tree K → Type 0
-Celled (leaf C c) = All (λ r. in_cell C (box_in c) r ≡ true) (inside c)
-Celled (shrink C i a b) = All (λ r. in_cell C i r ≡ true) (readings a ++ readings b) × Celled a × Celled b
-Celled (split E i a b) = All (λ r. in_cell E i r ≡ true) (readings a ++ readings b) × Celled a × Celled b
+Celled (leaf C c) = AllByRecursion (λ r. in_cell C (box_in c) r ≡ true) (inside c)
+Celled (shrink C i a b) = AllByRecursion (λ r. in_cell C i r ≡ true) (readings a ++ readings b) × Celled a × Celled b
+Celled (split E i a b) = AllByRecursion (λ r. in_cell E i r ≡ true) (readings a ++ readings b) × Celled a × Celled b
 
 -- What f says of the readings under a node, joined by op, where a leaf with an inner box counts as e.
 abbrev pub total : {K M : Type 0} → (M → M → M) → M → (Reading K → M) → Tree K → M

@@ -7,7 +7,7 @@
 --   Among, Alike                    the members of a list, and lists with the same members
 use Rattle.std.specs.Prelude.{◌≡◌, ℕ, ◌^◌, ◌<◌, Bool, true, cond, not, ◌&&◌, ◌||◌, ◌⊎◌, List, [], ◌∷◌, filter, ◌==◌, ◌≢◌, nat_lt}
 use Rattle.std.proofs.Math.Option.{Option}
-use Rattle.std.specs.List.{AllByRecursion as All}
+use Rattle.std.specs.List.{AllByRecursion}
 use Rattle.quadtreap.specs.Tree.{Reading, Tree, tree_of}
 
 -- A rank is a priority and a code.
@@ -30,12 +30,12 @@ before p q = earlier (rank_of p) (rank_of q)
 -- The list is in rank order: each reading ranks before all that follow.
 abbrev pub Ranked : {K : Type 0} → List (Reading K) → Type 0
 Ranked [] = Unit {0}
-Ranked (q ∷ qs) = All (λ r. before q r ≡ true) qs × Ranked qs
+Ranked (q ∷ qs) = AllByRecursion (λ r. before q r ≡ true) qs × Ranked qs
 
 -- The codes have 32 bits, and no two are the same.
 abbrev pub Valid : {K : Type 0} → List (Reading K) → Type 0
 Valid [] = Unit {0}
-Valid (q ∷ qs) = (q.code < 2 ^ 32) × All (λ r. q.code ≢ r.code) qs × Valid qs
+Valid (q ∷ qs) = (q.code < 2 ^ 32) × AllByRecursion (λ r. q.code ≢ r.code) qs × Valid qs
 
 -- The list in rank order with p put at its rank.
 abbrev pub put : {K : Type 0} → Reading K → List (Reading K) → List (Reading K)

@@ -9,7 +9,7 @@
 --   visit, Visits                 a walk with trees that wait, and its steps
 use Rattle.std.specs.Prelude.{◌≡◌, ℕ, suc, ◌+◌, ◌^◌, ◌<◌, Bool, true, false, cond, List, [], ◌∷◌}
 use Rattle.std.proofs.Math.Option.{Option, none, some}
-use Rattle.std.specs.List.{AllByRecursion as All}
+use Rattle.std.specs.List.{AllByRecursion}
 use Rattle.place.specs.Codes.{motor_of, root_of}
 use Rattle.place.specs.Boxes.{Box, in_box, Formed}
 use Rattle.crossing.specs.Regions.{Places, misses, held}
@@ -104,7 +104,7 @@ joined join e s (r ∷ rs) = cond (s r) (join r.tally (joined join e s rs)) (joi
 
 -- The set s has each of the listed readings that is in the inner set, and none that is outside the outer set.
 abbrev pub Selects : {K : Type 0} → Places → Places → Places → List (Reading K) → Type 0
-Selects inner outer s rs = All (λ r. (is_in inner r ≡ true → is_in s r ≡ true) × (is_in s r ≡ true → is_in outer r ≡ true)) rs
+Selects inner outer s rs = AllByRecursion (λ r. (is_in inner r ≡ true → is_in s r ≡ true) × (is_in s r ≡ true → is_in outer r ≡ true)) rs
 
 -- An answer so far, and then the walks of the trees that wait.
 abbrev pub visit : {K : Type 0} → (K → K → K) → K → Tests → Answer K → List (Tree K) → Answer K

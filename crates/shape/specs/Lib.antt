@@ -2,3 +2,4 @@
 pub mod Faults
 pub mod Shapes
 pub mod DiscTests
+pub mod BandLemmas

@@ -1,7 +1,7 @@
 //! The calls on bands.
 ghost use Rattle.std.specs.Prelude.{◌≡◌, ◌&&◌, nat_le};
 ghost use Rattle.shape.specs.Shapes.{band_inner, band_outer, BandMade};
-ghost use Rattle.std.proofs.Common.{rules};
+ghost use Rattle.shape.specs.BandLemmas.{inner_in_outer};
 
 use crate::band::Band;
 use crate::fault::ShapeFault;
@@ -61,7 +61,7 @@ impl Shape for Band {
 
     ghost outer = { band_outer };
 
-    ghost nested = { Prim.search rules };
+    ghost nested = { inner_in_outer };
 
     fn misses(&self, region: Rectangle) -> bool {
         let own = self.rectangle;

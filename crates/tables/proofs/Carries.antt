@@ -1,7 +1,7 @@
 -- A tally joined to one reading: the list, the tree, and the tree with its places.
 use Rattle.std.proofs.Common.{◌≡◌, ℕ, suc, ◌+◌, ◌≤◌, Bool, true, cond, ◌≢◌, List, [], ◌∷◌, length, sym, refl, ap, ◌∙◌, subst, inl, inr, arith}
 use mathlib.Core.Option.{Option, none, some}
-use Rattle.std.specs.List.{AllByRecursion as All}
+use Rattle.std.specs.List.{AllByRecursion}
 use Rattle.std.proofs.lemmas.Bool.{ne_eqb, cases_eq}
 use Rattle.place.specs.Boxes.{Box, whole}
 use Rattle.quadtreap.specs.Tree.{Reading, reading, box, Tree, leaf, shrink, split, insert, insert_all, tree_of, nodes, map_nodes}
@@ -25,7 +25,7 @@ before_carry : {K : Type 0} (f : Reading K → K) (q r : Reading K) → before q
 unfolding before
 before_carry f q r h = h
 
-all_carry : {K : Type 0} (f : Reading K → K) (P Q : Reading K → Type 0) → ((r : Reading K) → P r → Q (carry f r)) → (rs : List (Reading K)) → All P rs → All Q (carry_all f rs)
+all_carry : {K : Type 0} (f : Reading K → K) (P Q : Reading K → Type 0) → ((r : Reading K) → P r → Q (carry f r)) → (rs : List (Reading K)) → AllByRecursion P rs → AllByRecursion Q (carry_all f rs)
 all_carry f P Q to [] h = tt
 all_carry f P Q to (r ∷ rs) h = (to r h.0, all_carry f P Q to rs h.1)
 
@@ -69,7 +69,7 @@ module _ {K : Type 0} (k : ℕ) where
   heads_all t [] = omega arith
   heads_all t (p ∷ ps) = let h = heads_all (insert t p) ps in let i = heads_insert t p in omega arith
 
-  none_head : (c : ℕ) → c ≡ k → (rs : List (Reading K)) → All (λ r. c ≡ r.code → ⊥) rs → heads_of rs ≡ 0
+  none_head : (c : ℕ) → c ≡ k → (rs : List (Reading K)) → AllByRecursion (λ r. c ≡ r.code → ⊥) rs → heads_of rs ≡ 0
   none_head c is [] h = refl
   none_head c is (r ∷ rs) h = let z = one_not k r.code (λ e. h.0 (is ∙ e)) in let n = none_head c is rs h.1 in omega arith
 

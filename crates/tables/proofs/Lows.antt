@@ -1,7 +1,7 @@
 -- A new reading and the leaf that its code leads to part below depth 32.
 use Rattle.std.proofs.Common.{◌≡◌, ℕ, ◌^◌, ◌<◌, min, cond, List, [], ◌∷◌, ◌++◌, length, sym, ap, ◌∙◌, subst, inl, inr, arith}
 use mathlib.Core.Option.{Option, none, some}
-use Rattle.std.specs.List.{AllByRecursion as All}
+use Rattle.std.specs.List.{AllByRecursion}
 use Rattle.std.proofs.lemmas.Bool.{eq-eqb, cases_eq}
 use Rattle.place.specs.Boxes.{Box, whole, smallest}
 use Rattle.quadtreap.specs.Tree.{Reading, Content, reading, box, Tree, leaf, shrink, split, point_of, build, tree_of, extent}
@@ -16,7 +16,7 @@ use Rattle.quadtreap.proofs.InsideLaws.{by_cells}
 use Rattle.quadtreap.proofs.ValidLaws.{valid_cell}
 
 -- no other reading has the code
-pub all_other : {K : Type 0} (k : ℕ) (rs : List (Reading K)) → lookup k rs ≡ none → All (λ r. k ≡ r.code → ⊥) rs
+pub all_other : {K : Type 0} (k : ℕ) (rs : List (Reading K)) → lookup k rs ≡ none → AllByRecursion (λ r. k ≡ r.code → ⊥) rs
 all_other k [] h = tt
 all_other k (r ∷ rs) h =
     elim (cases_eq k r.code) [
@@ -42,19 +42,19 @@ module _ {K : Type 0} where
   holes_build r rs v =
       by_cells (λ C c t. Low c → Holes t) (λ C c f l. l) (λ C c p ps f l r o w. ((l w, r tt), o f.all.0.low)) (length rs) whole (reading r) rs (omega arith) (valid_cell r rs v) tt
 
-  codes : (rs : List (Reading K)) → Valid rs → All (λ r. r.code < 2 ^ 32) rs
+  codes : (rs : List (Reading K)) → Valid rs → AllByRecursion (λ r. r.code < 2 ^ 32) rs
   codes [] v = tt
   codes (r ∷ rs) v = (v.0, codes rs v.2)
 
   abbrev Fine : Option (Tree K) → Type 0
   Fine none = Unit {0}
-  Fine (some t) = Holes t × All (λ r. r.code < 2 ^ 32) (readings t)
+  Fine (some t) = Holes t × AllByRecursion (λ r. r.code < 2 ^ 32) (readings t)
 
   fine : (rs : List (Reading K)) → Valid rs → Fine (tree_of rs)
   fine [] v = tt
   fine (r ∷ rs) v = (holes_build r rs v, all_insert_all (λ r. r.code < 2 ^ 32) (leaf whole (reading r)) rs (v.0, tt) (codes rs v.2))
 
-  in_path : (P : Reading K → Type 0) (gs : List (PairFrame K)) (t : PlacedPairs K) → Holes (tree_in (put_in_all gs t)) → All P (readings (tree_in (put_in_all gs t))) → Holes (tree_in t) × All P (readings (tree_in t))
+  in_path : (P : Reading K → Type 0) (gs : List (PairFrame K)) (t : PlacedPairs K) → Holes (tree_in (put_in_all gs t)) → AllByRecursion P (readings (tree_in (put_in_all gs t))) → Holes (tree_in t) × AllByRecursion P (readings (tree_in t))
   in_path P [] t h a = (h, a)
   in_path P (on_left_at s w r C i E R O ∷ gs) t h a =
       let k = in_path P gs (placed_pair s w r C i E t R O) h a in
@@ -66,7 +66,7 @@ module _ {K : Type 0} where
       let k = in_path P gs (placed_pair s w r C i E L R t) h a in
       (k.0.1, (all_parts P (readings (tree_in L) ++ readings (tree_in R)) (readings (tree_in t)) k.1).1)
 
-  low_by : (c : Content K) (p : Reading K) → Low c → All (λ r. r.code < 2 ^ 32) (inside c) → p.code < 2 ^ 32 → of_code p.code c ≡ none → (smallest (extent c) (point_of p)).depth < 32
+  low_by : (c : Content K) (p : Reading K) → Low c → AllByRecursion (λ r. r.code < 2 ^ 32) (inside c) → p.code < 2 ^ 32 → of_code p.code c ≡ none → (smallest (extent c) (point_of p)).depth < 32
   low_by (reading r) p low a small gone =
       elim (cases_eq p.code r.code) [
         | inl is ↦ absurd (mathlib.Core.Bool.true≢false (sym (ap (λ b. is_some (cond b (some r) none)) (eq-eqb p.code r.code is)) ∙ ap is_some gone))

@@ -1,7 +1,7 @@
 -- The live readings after any calls are in rank order.
 use Rattle.std.proofs.Common.{◌≡◌, ℕ, Bool, true, false, cond, eqb, List, [], ◌∷◌, sym, refl, ap, ◌∙◌, inl, inr}
 use mathlib.Core.Option.{some}
-use Rattle.std.specs.List.{AllByRecursion as All}
+use Rattle.std.specs.List.{AllByRecursion}
 use Rattle.std.proofs.lemmas.Bool.{cases_Bool, eq-eqb, both_ways}
 use Rattle.quadtreap.specs.Tree.{Reading}
 use Rattle.quadtreap.specs.Rank.{Ranked, other}
@@ -13,7 +13,7 @@ use Rattle.tables.proofs.Carries.{ranked_carry}
 
 module _ {K : Type 0} where
   -- a code that no reading has
-  new_code : (k : ℕ) (rs : List (Reading K)) → present k rs ≡ false → All (λ r. k ≡ r.code → ⊥) rs
+  new_code : (k : ℕ) (rs : List (Reading K)) → present k rs ≡ false → AllByRecursion (λ r. k ≡ r.code → ⊥) rs
   new_code k [] gone = tt
   new_code k (r ∷ rs) gone =
       elim (cases_Bool (eqb k r.code)) [

@@ -2,5 +2,6 @@
 pub mod Sums
 pub mod Spans
 pub mod Pairs
+pub mod PairsLemmas
 pub mod SpansLemmas
 pub mod SumsLemmas

@@ -1,4 +1,4 @@
--- Spans may be joined in any grouping.
+-- Spans obey the laws of a kind.
 use Rattle.std.specs.Prelude.{◌≡◌, ℕ, ◌≤◌, min, max, refl}
 use Rattle.std.proofs.Common.{ap, sym, ◌∙◌, arith}
 use Rattle.tally.specs.declared.span.Span.{Span}
@@ -45,3 +45,17 @@ join_associative (Times a b) (Times c d) (Times e f) =
     ∙ ap
     (Times (min (min a b) (min (min (min c d) (min e f)) (max (max c d) (max e f)))))
     (greatest (min a b) (max a b) (min c d) (max c d) (min e f) (max e f) (ordered a b) (ordered c d) (ordered e f))
+
+-- Two joined spans are the same in either order.
+pub join_commutative : (x y : Span) → span_joined x y ≡ span_joined y x
+join_commutative Empty Empty = refl
+join_commutative Empty (Times c d) = refl
+join_commutative (Times a b) Empty = refl
+join_commutative (Times a b) (Times c d) =
+    let first : min (min a b) (min c d) ≡ min (min c d) (min a b) = omega arith in
+    let last : max (max a b) (max c d) ≡ max (max c d) (max a b) = omega arith in
+    cc
+
+-- The empty span changes no span.
+pub empty_joined : (x : Span) → span_joined Empty x ≡ x
+empty_joined x = refl

@@ -17,6 +17,10 @@ same_sum x y e = subst (λ w. (k : w < 2 ^ 64) → x ≡ sum w k) e (λ k. ap (s
 pub join_associative : (x y z : Sum) → sum_joined (sum_joined x y) z ≡ sum_joined x (sum_joined y z)
 join_associative x y z = same_sum (sum_joined (sum_joined x y) z) (sum_joined x (sum_joined y z)) (omega arith)
 
+-- Sums may be joined in either order.
+pub join_commutative : (x y : Sum) → sum_joined x y ≡ sum_joined y x
+join_commutative x y = same_sum (sum_joined x y) (sum_joined y x) (omega arith)
+
 -- The sum of nothing changes no sum.
 pub zero_joined : (x : Sum) → sum_joined zero_sum x ≡ x
 zero_joined x = same_sum (sum_joined zero_sum x) x (let h = x.fits in omega arith)

@@ -1,5 +1,5 @@
 ghost use Rattle.tally.specs.Pairs.{pair_neutral, pair_joined};
-ghost use Rattle.std.proofs.Common.{rules};
+ghost use Rattle.tally.specs.PairsLemmas.{pair_commutative, pair_associative, pair_neutral_left};
 
 use crate::kind::Tally;
 
@@ -15,11 +15,11 @@ impl<A: Tally, B: Tally> Tally for Pair<A, B> {
 
     ghost joined = { pair_joined A.Tally.joined B.Tally.joined };
 
-    ghost commutative = { Prim.search rules };
+    ghost commutative = { pair_commutative A.Tally.neutral A.Tally.joined B.Tally.neutral B.Tally.joined A.Tally.commutative B.Tally.commutative };
 
-    ghost associative = { Prim.search rules };
+    ghost associative = { pair_associative A.Tally.neutral A.Tally.joined B.Tally.neutral B.Tally.joined A.Tally.associative B.Tally.associative };
 
-    ghost neutral_left = { Prim.search rules };
+    ghost neutral_left = { pair_neutral_left A.Tally.neutral A.Tally.joined B.Tally.neutral B.Tally.joined A.Tally.neutral_left B.Tally.neutral_left };
 
     fn neutral_value() -> Self {
         Pair {

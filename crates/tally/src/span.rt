@@ -1,8 +1,7 @@
 ghost use Rattle.std.specs.Prelude.{◌≡◌};
 ghost use Rattle.tally.specs.Spans.{earliest, latest, lesser, greater, span_joined};
 ghost use Rattle.tally.specs.declared.span.Span.TheVariants.{Empty, Times};
-ghost use Rattle.tally.specs.SpansLemmas.{join_associative};
-ghost use Rattle.std.proofs.Common.{rules};
+ghost use Rattle.tally.specs.SpansLemmas.{join_commutative, join_associative, empty_joined};
 
 use crate::kind::Tally;
 
@@ -50,11 +49,11 @@ impl Tally for Span {
 
     ghost joined = { span_joined };
 
-    ghost commutative = { Prim.search rules };
+    ghost commutative = { join_commutative };
 
     ghost associative = { join_associative };
 
-    ghost neutral_left = { Prim.search rules };
+    ghost neutral_left = { empty_joined };
 
     fn neutral_value() -> Self {
         Self::Empty

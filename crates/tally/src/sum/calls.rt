@@ -1,7 +1,6 @@
 ghost use Rattle.std.specs.Prelude.{◌≡◌};
 ghost use Rattle.tally.specs.Sums.{OnlySum, zero_sum, sum_joined};
-ghost use Rattle.tally.specs.SumsLemmas.{join_associative, zero_joined};
-ghost use Rattle.std.proofs.Common.{rules, arith};
+ghost use Rattle.tally.specs.SumsLemmas.{join_commutative, join_associative, zero_joined};
 
 use super::Sum;
 use crate::kind::Tally;
@@ -32,7 +31,7 @@ impl Tally for Sum {
 
     ghost joined = { sum_joined };
 
-    ghost commutative = { first_of (Prim.search rules, Prim.grind (arith, Self.row.coded.inj)) };
+    ghost commutative = { join_commutative };
 
     ghost associative = { join_associative };
 
