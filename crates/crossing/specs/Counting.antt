@@ -1,6 +1,6 @@
 -- Sums, counts and searches over the numbers below a bound. The checker unfolds none of them unless a proof asks, so that nothing ever computes them.
 --   sum_below, count_below, any_below   a sum, a count and a search below a bound
---   one_if                            1 for yes and 0 for no
+--   one_if                              1 for yes and 0 for no
 use Rattle.std.specs.Prelude.{ℕ, zero, suc, ◌+◌, Bool, true, false, ◌||◌}
 
 -- f 0 + f 1 + .. + f (n - 1).

@@ -1,8 +1,8 @@
 -- Discs of places, and the crossing sum of a disc.
---   apart, within                    distances, and the places at most so far from a centre
---   gap_to, reach_to                   how far the nearest and the farthest count of an interval are
---   coarse, reached, added           which depths count, and for how much
---   crossing_sum                      the bound on how many boxes cross a disc
+--   apart, within            distances, and the places at most so far from a centre
+--   gap_to, reach_to         how far the nearest and the farthest count of an interval are
+--   coarse, reached, added   which depths count, and for how much
+--   crossing_sum             the bound on how many boxes cross a disc
 use Rattle.std.specs.Prelude.{ℕ, ◌+◌, ◌-◌, ◌*◌, ◌/◌, max, Bool, cond, nat_le, nat_lt}
 use Rattle.place.specs.Boxes.{motor_side, root_side}
 use Rattle.crossing.specs.Counting.{sum_below}

@@ -1,7 +1,7 @@
 -- Sets of places, and how a region of places lies to the inner and the outer set of a shape.
 --   Places, beyond                 a set of places, and the places that are not in it
 --   meets, misses, held, crosses   how a region lies to a shape
---   box_at, crossings               every box, and how many of them cross
+--   box_at, crossings              every box, and how many of them cross
 --   Found                          a place of a region that is in a set
 use Rattle.std.specs.Prelude.{◌≡◌, ℕ, ◌-◌, ◌*◌, ◌^◌, ◌<◌, Bool, true, not, ◌&&◌}
 use Rattle.place.specs.Boxes.{Box, in_box}

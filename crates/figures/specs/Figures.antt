@@ -1,7 +1,7 @@
 -- The worked figures: one list, and what each of its entries states of the definitions.
---   Figure, Follows     a figure, and what it states
---   reading, P, Q, S    readings by their places, priorities and sums
---   figures             the list
+--   Figure, Follows    a figure, and what it states
+--   reading, P, Q, S   readings by their places, priorities and sums
+--   figures            the list
 use Rattle.std.specs.Prelude.{◌≡◌, ℕ, ◌%◌, ◌^◌, List, [], ◌∷◌}
 use Rattle.place.specs.Codes.{code_of}
 use Rattle.place.specs.Boxes.{smallest, point, motor_side, root_side}

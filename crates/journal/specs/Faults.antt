@@ -1,5 +1,5 @@
 -- The number under which each fault of a journal's bytes is reported.
---   fault_number    the number of a fault
+--   fault_number   the number of a fault
 use Rattle.std.specs.Prelude.{ℕ}
 use Rattle.journal.specs.declared.fault.FormatFault.{FormatFault}
 use Rattle.journal.specs.declared.fault.FormatFault.TheVariants.{TooLong, WrongMark, WrongVersion, UnknownLetter, CutShort}

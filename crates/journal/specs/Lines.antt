@@ -1,6 +1,6 @@
 -- The lines that are printed, byte by byte. Numbers are decimal, without leading zeros.
---   blank, line_end    the byte between two fields, and the byte that ends a line
---   times_text         the first and the last time of a tally, or two dashes where it has none
+--   blank, line_end   the byte between two fields, and the byte that ends a line
+--   times_text        the first and the last time of a tally, or two dashes where it has none
 --   told              what a line says after its number
 --   printed           a whole line
 use Rattle.std.specs.Prelude.{ℕ, List, [], ◌∷◌, ◌++◌, Some, None, codes, decimal, Option}

@@ -1,12 +1,12 @@
 -- What is answered where a record is to be read from bytes.
---   ReadsFields    a record, by the bytes after its letter
---   Reads          a record, by all of its bytes
---   Unknown        bytes that begin with no letter of a record
---   Cut            bytes that end within a record
---   Explains       the fault of bytes that begin with no record
---   Decodes        the record that bytes begin with and the bytes after it, or a fault
---   OneDecoding    bytes have one answer only
---   DecodesBack    what spells a record is read as that record
+--   ReadsFields   a record, by the bytes after its letter
+--   Reads         a record, by all of its bytes
+--   Unknown       bytes that begin with no letter of a record
+--   Cut           bytes that end within a record
+--   Explains      the fault of bytes that begin with no record
+--   Decodes       the record that bytes begin with and the bytes after it, or a fault
+--   OneDecoding   bytes have one answer only
+--   DecodesBack   what spells a record is read as that record
 use Rattle.std.specs.Prelude.{◌≡◌, ℕ, ◌<◌, ◌⊎◌, List, [], ◌∷◌, ◌++◌, length, Ok, Err, Result, ◌≢◌}
 use Rattle.journal.specs.declared.entry.Entry.{Entry}
 use Rattle.journal.specs.declared.fault.FormatFault.{FormatFault}

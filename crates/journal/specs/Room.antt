@@ -1,6 +1,6 @@
 -- Bytes written one after another into a room of fixed size, with zeros after them.
---   Adds     the room after more bytes were written into it
---   Holds    a room that holds given bytes and then zeros
+--   Adds    the room after more bytes were written into it
+--   Holds   a room that holds given bytes and then zeros
 use Rattle.std.specs.Prelude.{◌≡◌, ℕ, ◌+◌, ◌-◌, ◌≤◌, List, ◌++◌, length, take, drop, replicate}
 
 -- The bytes t were written at a place of the room, what stood before that place and after t is as it was, and `next` is the place after t.

@@ -1,6 +1,6 @@
 -- The state of a map value, and the tables that it holds.
 --   state_of   what a map is made of, with what its two tables hold
---   Lends     the map holds the tables that were lent to it
+--   Lends      the map holds the tables that were lent to it
 use Rattle.std.specs.Prelude.{◌≡◌}
 use Rattle.map.specs.declared.Map.{Map}
 use Rattle.tables.specs.Stands.{State, state}

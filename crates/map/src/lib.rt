@@ -1,7 +1,7 @@
 // A map over two lent tables.
 #![tactic(auto)]
 
-ghost use Rattle.std.specs.Prelude.{◌≡◌, ◌+◌, ◌<◌, min, [], slice_index_or, slice_set};
+ghost use Rattle.std.specs.Prelude.{◌≡◌, min, [], slice_index_or, slice_set};
 ghost use Rattle.map.specs.Maps.{state_of, Lends};
 ghost use Rattle.records.specs.Writes.{at};
 ghost use Rattle.records.specs.Promises.{Descends};

@@ -11,11 +11,11 @@ use Rattle.pamtext.proofs.SameTexts.{same_record}
 
 -- The text of a record is not passed over.
 kept : (e : Entry) → passed (text_of e) ≡ false
-kept (Enter motor motorTime root rootTime priority weight) = refl
+kept (Enter motor motor_time root root_time priority weight) = refl
 kept (Again motor root time weight) = refl
 kept (Strike motor root) = refl
 kept (Disc motor root inner outer) = refl
-kept (Band lowestMotor highestMotor lowestRoot highestRoot margin) = refl
+kept (Band lowest_motor highest_motor lowest_root highest_root margin) = refl
 kept Height = refl
 
 -- A line that says a record is not passed over.

@@ -21,11 +21,11 @@ rebuilt c ns =
 -- Letter and numbers say which record it is.
 rebuilds : (e : Entry) → rebuilt (letter e) (numbers e) ≡ e
 unfolding rebuilt
-rebuilds (Enter motor motorTime root rootTime priority weight) = refl
+rebuilds (Enter motor motor_time root root_time priority weight) = refl
 rebuilds (Again motor root time weight) = refl
 rebuilds (Strike motor root) = refl
 rebuilds (Disc motor root inner outer) = refl
-rebuilds (Band lowestMotor highestMotor lowestRoot highestRoot margin) = refl
+rebuilds (Band lowest_motor highest_motor lowest_root highest_root margin) = refl
 rebuilds Height = refl
 
 -- Numbers of which each has at most 64 bits.
@@ -35,11 +35,11 @@ Small (n ∷ ns) = (n < 2 ^ 64) × Small ns
 
 -- The numbers of a record that fits have fewer bits.
 small : (e : Entry) → Fits e → Small (numbers e)
-small (Enter motor motorTime root rootTime priority weight) h = search rules
+small (Enter motor motor_time root root_time priority weight) h = search rules
 small (Again motor root time weight) h = search rules
 small (Strike motor root) h = search rules
 small (Disc motor root inner outer) h = search rules
-small (Band lowestMotor highestMotor lowestRoot highestRoot margin) h = search rules
+small (Band lowest_motor highest_motor lowest_root highest_root margin) h = search rules
 small Height h = tt
 
 -- A text is cut at its first byte c in one way only.

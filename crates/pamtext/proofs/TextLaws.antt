@@ -14,30 +14,30 @@ only c above (suc i) h e = omega arith
 
 -- Every letter comes after the blank among the bytes.
 above_blank : (e : Entry) → 32 < letter e
-above_blank (Enter motor motorTime root rootTime priority weight) = omega arith
+above_blank (Enter motor motor_time root root_time priority weight) = omega arith
 above_blank (Again motor root time weight) = omega arith
 above_blank (Strike motor root) = omega arith
 above_blank (Disc motor root inner outer) = omega arith
-above_blank (Band lowestMotor highestMotor lowestRoot highestRoot margin) = omega arith
+above_blank (Band lowest_motor highest_motor lowest_root highest_root margin) = omega arith
 above_blank Height = omega arith
 
 -- A text that is not the letter H alone has a blank and then fields.
 with_fields : (e : Entry) → (text_of e ≡ 72 ∷ [] → ⊥) → text_of e ≡ letter e ∷ 32 ∷ separated (numbers e)
-with_fields (Enter motor motorTime root rootTime priority weight) h = refl
+with_fields (Enter motor motor_time root root_time priority weight) h = refl
 with_fields (Again motor root time weight) h = refl
 with_fields (Strike motor root) h = refl
 with_fields (Disc motor root inner outer) h = refl
-with_fields (Band lowestMotor highestMotor lowestRoot highestRoot margin) h = refl
+with_fields (Band lowest_motor highest_motor lowest_root highest_root margin) h = refl
 with_fields Height h = absurd (h refl)
 
 -- A record whose text is not the letter H alone has one of the other five letters.
 pub other_letters : (e : Entry) {word : List ℕ} → (text_of e ≡ 72 ∷ [] → ⊥) → word ≡ letter e ∷ []
     → (word ≡ 65 ∷ [] → ⊥) → (word ≡ 71 ∷ [] → ⊥) → (word ≡ 83 ∷ [] → ⊥) → (word ≡ 68 ∷ [] → ⊥) → (word ≡ 66 ∷ [] → ⊥) → ⊥
-other_letters (Enter motor motorTime root rootTime priority weight) h is a g s d b = a is
+other_letters (Enter motor motor_time root root_time priority weight) h is a g s d b = a is
 other_letters (Again motor root time weight) h is a g s d b = g is
 other_letters (Strike motor root) h is a g s d b = s is
 other_letters (Disc motor root inner outer) h is a g s d b = d is
-other_letters (Band lowestMotor highestMotor lowestRoot highestRoot margin) h is a g s d b = b is
+other_letters (Band lowest_motor highest_motor lowest_root highest_root margin) h is a g s d b = b is
 other_letters Height h is a g s d b = h refl
 
 -- What a text that says the record e has before its first blank, and after it.

@@ -1,5 +1,5 @@
 -- What is printed where a text writes no journal.
---   fault_text    the words for a fault
+--   fault_text   the words for a fault
 use Rattle.std.specs.Prelude.{ℕ, List, ◌++◌, codes, decimal}
 use Rattle.pamtext.specs.declared.fault.TextFault.{TextFault}
 use Rattle.pamtext.specs.declared.fault.TextFault.TheVariants.{Line, NoMemory}

@@ -1,8 +1,8 @@
 -- Numbers written one after another.
---   separated     numbers in decimal, with commas between them
---   Within        numbers of which none passes the largest for its place
---   Spells        a text that is numbers within their largest, separated
---   Numbers       the numbers that a text spells, or none
+--   separated   numbers in decimal, with commas between them
+--   Within      numbers of which none passes the largest for its place
+--   Spells      a text that is numbers within their largest, separated
+--   Numbers     the numbers that a text spells, or none
 use Rattle.std.specs.Prelude.{◌≡◌, ℕ, ◌≤◌, List, [], ◌∷◌, ◌++◌, Some, None, decimal, Option}
 use Rattle.std.specs.List.{flat_map}
 

@@ -1,5 +1,5 @@
 -- The journal that a text writes.
---   journal_of    the bytes of a journal with given records
+--   journal_of   the bytes of a journal with given records
 --   Adds         bytes after one line more
 --   Refuses      the answer for a line that is not added
 --   Written      the bytes of a journal that a text writes

@@ -2,10 +2,10 @@
 --   longer_by     lines of which the first has one byte more in front
 --   lines_of      the lines of a text
 --   after_white   a text without the white space that it begins with
---   trimmed      a line without the white space at both ends
---   passed       whether a trimmed line is empty or a remark
---   Unreadable   a line that is neither passed over nor the text of a record
---   Tells        the records that lines say, in order
+--   trimmed       a line without the white space at both ends
+--   passed        whether a trimmed line is empty or a remark
+--   Unreadable    a line that is neither passed over nor the text of a record
+--   Tells         the records that lines say, in order
 use Rattle.std.specs.Prelude.{◌≡◌, ℕ, Bool, true, false, cond, List, [], ◌∷◌, reverse, ◌==◌}
 use Rattle.std.specs.Char.{is_ascii_whitespace}
 use Rattle.journal.specs.declared.entry.Entry.{Entry}

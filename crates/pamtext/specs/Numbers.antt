@@ -1,5 +1,5 @@
 -- A number in decimal.
---   Number    the number that a word is in decimal, or none
+--   Number   the number that a word is in decimal, or none
 use Rattle.std.specs.Prelude.{◌≡◌, ℕ, ◌≤◌, List, Some, None, decimal, Option, ◌≢◌}
 
 -- The answer is the number that the word is in decimal, or none where no number up to the largest is written so.

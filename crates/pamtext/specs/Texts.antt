@@ -1,12 +1,12 @@
 -- The text of a record.
---   numbers      the numbers of a record, in the order of its fields
+--   numbers       the numbers of a record, in the order of its fields
 --   after_blank   a blank and numbers
 --   text_of       the text of a record
---   HasFields    a text that is the fields of a record with a given letter
---   Makes        the record that the text of its fields makes, or none
---   Says         a text that is the text of a record whose numbers fit
---   Reads        the record that a text says, or none
---   OneReading   a text has one answer only
+--   HasFields     a text that is the fields of a record with a given letter
+--   Makes         the record that the text of its fields makes, or none
+--   Says          a text that is the text of a record whose numbers fit
+--   Reads         the record that a text says, or none
+--   OneReading    a text has one answer only
 use Rattle.std.specs.Prelude.{◌≡◌, ℕ, List, [], ◌∷◌, Some, None, Option}
 use Rattle.journal.specs.Layout.{letter, Fits}
 use Rattle.journal.specs.declared.entry.Entry.{Entry}
@@ -15,12 +15,12 @@ use Rattle.pamtext.specs.Fields.{separated}
 
 -- The numbers of a record stand in the order of its fields.
 abbrev pub numbers : Entry → List ℕ
-numbers (Enter motor motorTime root rootTime priority weight) = motor ∷ motorTime ∷ root ∷ rootTime ∷ priority ∷ weight ∷ []
+numbers (Enter motor motor_time root root_time priority weight) = motor ∷ motor_time ∷ root ∷ root_time ∷ priority ∷ weight ∷ []
 numbers (Again motor root time weight) = motor ∷ root ∷ time ∷ weight ∷ []
 numbers (Strike motor root) = motor ∷ root ∷ []
 numbers (Disc motor root inner outer) = motor ∷ root ∷ inner ∷ outer ∷ []
-numbers (Band lowestMotor highestMotor lowestRoot highestRoot margin) =
-    lowestMotor ∷ highestMotor ∷ lowestRoot ∷ highestRoot ∷ margin ∷ []
+numbers (Band lowest_motor highest_motor lowest_root highest_root margin) =
+    lowest_motor ∷ highest_motor ∷ lowest_root ∷ highest_root ∷ margin ∷ []
 numbers Height = []
 
 -- Where there are numbers, a blank stands before them.

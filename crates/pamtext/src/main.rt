@@ -13,15 +13,18 @@ mod tests;
 use journal_text::journal_of;
 use std::io;
 use std::io::Write;
+use std::process::ExitCode;
 
-fn main(rt: HostRuntime) -> anyhow::Result<()> {
+fn main(rt: HostRuntime) -> anyhow::Result<ExitCode> {
     let text = io::read_to_string(rt.alloc(), rt.stdin())?;
     match journal_of(rt.alloc(), text.as_str()) {
-        Ok(bytes) => rt.stdout().write_all(bytes.as_slice())?,
+        Ok(bytes) => {
+            rt.stdout().write_all(bytes.as_slice())?;
+            Ok(ExitCode::SUCCESS)
+        }
         Err(fault) => {
             eprintln!(rt; "{fault}")?;
-            return Err(fault.into());
+            Ok(ExitCode::FAILURE)
         }
     }
-    Ok(())
 }

@@ -1,12 +1,12 @@
 -- Boxes: sets of places whose codes share their most significant bits.
---   Box, prefix, holds, in_box     a box, and the codes and places in it
---   cut, whole, point             the box of a depth around a code, the whole square, the box of one code
---   within                        one box contained in another
---   agree, smallest, Deepest      how many bits two codes share, and the deepest box that contains both of two boxes
---   half, lower, upper            the halves of a box
---   motor_side, root_side           how many counts a box spans
---   between                       the places of a rectangle, by its four ends
---   Formed                        a box as it is written: zeros below its depth
+--   Box, prefix, holds, in_box   a box, and the codes and places in it
+--   cut, whole, point            the box of a depth around a code, the whole square, the box of one code
+--   within                       one box contained in another
+--   agree, smallest, Deepest     how many bits two codes share, and the deepest box that contains both of two boxes
+--   half, lower, upper           the halves of a box
+--   motor_side, root_side        how many counts a box spans
+--   between                      the places of a rectangle, by its four ends
+--   Formed                       a box as it is written: zeros below its depth
 use Rattle.std.specs.Prelude.{◌≡◌, ℕ, zero, suc, ◌+◌, ◌-◌, ◌*◌, ◌/◌, ◌^◌, ◌<◌, ◌≤◌, min, Bool, true, cond, ◌&&◌, ◌==◌, nat_le}
 use Rattle.place.specs.Codes.{code_of}
 

@@ -1,8 +1,8 @@
 -- Codes of places. A place is a motor count and a root count, each below 2 ^ 16.
---   interleave, code_of            the code of a place
---   odd_bits, even_bits             every second bit of a code
---   motor_of, root_of               the place of a code
---   Interleaved                   which bit of a code is which bit of the place
+--   interleave, code_of   the code of a place
+--   odd_bits, even_bits   every second bit of a code
+--   motor_of, root_of     the place of a code
+--   Interleaved           which bit of a code is which bit of the place
 use Rattle.std.specs.Prelude.{◌≡◌, ℕ, zero, suc, ◌+◌, ◌*◌, ◌/◌, ◌%◌, ◌^◌, ◌<◌}
 
 -- The lowest n bits of m and r, interleaved: the bits of m at the odd places and those of r at the even ones.

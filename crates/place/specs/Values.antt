@@ -1,9 +1,9 @@
 -- What the code's values mean: a box value is a box, and a rectangle value is a set of places.
 --   box_of         the box that a box value is
 --   in_rectangle   the places of a rectangle value
---   Halved        the answer of a box asked for the half with a code
---   Made          the answer where a rectangle is asked for by its four ends
---   Covers        a rectangle whose places are exactly those of a box
+--   Halved         the answer of a box asked for the half with a code
+--   Made           the answer where a rectangle is asked for by its four ends
+--   Covers         a rectangle whose places are exactly those of a box
 use Rattle.std.specs.Prelude.{◌≡◌, ℕ, ◌+◌, ◌^◌, ◌<◌, ◌≤◌, Bool, true, Some, None, Option, ◌≢◌}
 use Rattle.place.specs.Boxes.{Box, holds, in_box, within, half, point, motor_side, root_side, between}
 use Rattle.place.specs.declared.place_box.PlaceBox.{PlaceBox}

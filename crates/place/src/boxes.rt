@@ -1,6 +1,6 @@
 //! The calls on boxes.
 ghost use Rattle.std.specs.Prelude.{◌≡◌, min};
-ghost use Rattle.place.specs.Boxes.{cut, whole as wholeSquare, point as point_of, holds as holds_code, smallest as smallestOf, Deepest, motor_side, root_side};
+ghost use Rattle.place.specs.Boxes.{cut, whole as whole_square, point as point_of, holds as holds_code, smallest as smallest_of, Deepest, motor_side, root_side};
 ghost use Rattle.place.specs.Values.{box_of, Halved, Covers};
 
 use crate::place::Place;
@@ -23,7 +23,7 @@ impl PlaceBox {
 
     /// The whole square.
     pub fn whole() -> PlaceBox
-        ensures value { box_of result ≡ wholeSquare }
+        ensures value { box_of result ≡ whole_square }
     {
         PlaceBox { depth: 0, code: 0 }
     }
@@ -57,7 +57,7 @@ impl PlaceBox {
 
     /// The smallest box of this box and a code: the deepest that contains both.
     pub fn smallest(self, code: u32) -> PlaceBox
-        ensures value { box_of result ≡ smallestOf (box_of self) (point_of code) }
+        ensures value { box_of result ≡ smallest_of (box_of self) (point_of code) }
         ensures deepest { Deepest (box_of self) (point_of code) (box_of result) }
     {
         let shared = (self.code ^ code).leading_zeros() as u8;
@@ -66,7 +66,7 @@ impl PlaceBox {
 
     /// The smallest box of two codes: the deepest that contains both.
     pub fn smallest_of(first: u32, second: u32) -> PlaceBox
-        ensures value { box_of result ≡ smallestOf (point_of first) (point_of second) }
+        ensures value { box_of result ≡ smallest_of (point_of first) (point_of second) }
         ensures deepest { Deepest (point_of first) (point_of second) (box_of result) }
     {
         PlaceBox::point(first).smallest(second)

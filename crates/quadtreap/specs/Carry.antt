@@ -1,5 +1,5 @@
 -- The same readings and trees with other tallies.
---   carry, carry_all                     a reading and a list of readings with other tallies
+--   carry, carry_all                       a reading and a list of readings with other tallies
 --   carry_content, carry_tree, map_carry   a content, a tree and a map with other tallies
 use Rattle.std.specs.Prelude.{List, [], ◌∷◌}
 use Rattle.std.proofs.Math.Option.{Option, none, some}

@@ -1,6 +1,6 @@
 -- The readings under a node, and the cell that they lie in.
 --   inside, readings   the reading of a leaf, and the readings under a node
---   in_cell, Celled     whether a reading lies in a cell; a tree whose readings lie in the cells of its nodes
+--   in_cell, Celled    whether a reading lies in a cell; a tree whose readings lie in the cells of its nodes
 --   total              something joined over the leaves under a node
 use Rattle.std.specs.Prelude.{◌≡◌, Bool, true, ◌&&◌, List, [], ◌∷◌, ◌++◌}
 use Rattle.std.proofs.Math.Option.{Option, none, some}

@@ -1,8 +1,8 @@
 -- Entering at the rank: a reading is planted at its leaf, and on the way up each pair is settled.
---   plant, settle         a new pair at a leaf, and one step up
+--   plant, settle           a new pair at a leaf, and one step up
 --   enter_tree, map_enter   entering a reading into a tree and into a map
---   settle_all             all steps up to the root
---   leads, leads_all       whether a code leads from a pair, or from the root, to a tree
+--   settle_all              all steps up to the root
+--   leads, leads_all        whether a code leads from a pair, or from the root, to a tree
 use Rattle.std.specs.Prelude.{ℕ, Bool, true, cond, not, ◌&&◌, List, [], ◌∷◌}
 use Rattle.std.proofs.Math.Option.{Option, none, some}
 use Rattle.place.specs.Boxes.{whole, holds}

@@ -1,6 +1,6 @@
 -- What is found on the way down a tree by a code.
 --   content_at, of_code, map_find   the content and the reading that a code leads to
---   lookup                       the reading with a code in a list
+--   lookup                          the reading with a code in a list
 use Rattle.std.specs.Prelude.{ℕ, cond, List, [], ◌∷◌, ◌==◌}
 use Rattle.std.proofs.Math.Option.{Option, none, some}
 use Rattle.place.specs.Boxes.{holds}

@@ -1,11 +1,11 @@
 -- The laws of the tree that its tables and its maps are proved by, where K is the kind of tally.
---   StaysPaired, Kept            trees are made of pairs, and their readings lie in their cells
---   Settled, Risen               entering by steps
---   GoesOn, IsDone, Relabels     striking by steps
---   StaysRanked, SortsByRank     lists stay in rank order, and are brought into it
---   Finds, Carried               what the tree finds, and that tallies do not change it
---   Totals, StepByStep           the tally of a node, and a walk by steps
---   SameTests                    tests that answer alike have the same walks
+--   StaysPaired, Kept          trees are made of pairs, and their readings lie in their cells
+--   Settled, Risen             entering by steps
+--   GoesOn, IsDone, Relabels   striking by steps
+--   StaysRanked, SortsByRank   lists stay in rank order, and are brought into it
+--   Finds, Carried             what the tree finds, and that tallies do not change it
+--   Totals, StepByStep         the tally of a node, and a walk by steps
+--   SameTests                  tests that answer alike have the same walks
 use Rattle.std.specs.Prelude.{◌≡◌, ℕ, ◌<◌, true, List, ◌∷◌}
 use Rattle.std.proofs.Math.Option.{none, some}
 use Rattle.place.specs.Boxes.{Box}

@@ -1,10 +1,10 @@
 -- Pairs of nodes, a shrink node over a split node: their parts, their ranks, and what moves them.
 --   first, second, inner_box, split_box, left_of, right_of, is_leaf, is_none   the parts of a node and of a pair
---   exchanged, promote_left, promote_outer                                 left and right exchanged; a child that rises over the pair
---   unranked, node_rank, creation, earlier_than                            the rank of a node, and of the reading that made a pair
---   out_of_order, ordered                                                  left and right in rank order
---   Frame, plug, plug_all                                                 pairs without one of their children, and with it
---   InnerBoxes, Paired, Fitting                                          trees that are made of pairs
+--   exchanged, promote_left, promote_outer                                     left and right exchanged; a child that rises over the pair
+--   unranked, node_rank, creation, earlier_than                                the rank of a node, and of the reading that made a pair
+--   out_of_order, ordered                                                      left and right in rank order
+--   Frame, plug, plug_all                                                      pairs without one of their children, and with it
+--   InnerBoxes, Paired, Fitting                                                trees that are made of pairs
 use Rattle.std.specs.Prelude.{◌≡◌, Bool, true, false, cond, ◌&&◌, List, [], ◌∷◌}
 use Rattle.std.proofs.Math.Option.{Option, none, some}
 use Rattle.place.specs.Boxes.{Box}

@@ -1,10 +1,10 @@
 -- Rank, lists of readings in rank order, and the tree of a set of readings.
 --   Rank, earlier, rank_of, before   what readings are ordered by, and which comes first
---   Ranked, Valid                   lists in rank order; lists of codes of 32 bits that all differ
---   put, in_rank_order                a reading put at its rank, and a list brought into rank order
---   tree_of_set                       the tree of a set of readings
---   other, without                  the readings with other codes
---   Among, Alike                    the members of a list, and lists with the same members
+--   Ranked, Valid                    lists in rank order; lists of codes of 32 bits that all differ
+--   put, in_rank_order               a reading put at its rank, and a list brought into rank order
+--   tree_of_set                      the tree of a set of readings
+--   other, without                   the readings with other codes
+--   Among, Alike                     the members of a list, and lists with the same members
 use Rattle.std.specs.Prelude.{◌≡◌, ℕ, ◌^◌, ◌<◌, Bool, true, cond, not, ◌&&◌, ◌||◌, ◌⊎◌, List, [], ◌∷◌, filter, ◌==◌, ◌≢◌, nat_lt}
 use Rattle.std.proofs.Math.Option.{Option}
 use Rattle.std.specs.List.{AllByRecursion}

@@ -1,10 +1,10 @@
 -- Striking in one way down: the pair that the struck reading made sinks until all its children are leaves.
---   Step, to_left, to_right, to_outer                 what a step ends in: done, or a child to go on with
---   with_outer_box, above_leaves, least_of             what a step asks and does
---   sink_right, sink_left, descend, strike_step       one step
---   after, strike_in, strike_tree                    all steps
---   holds_code, is_only, map_strike                   striking a reading from a map
---   FittingStep, node_rank_after                     what stays of pairs and of ranks
+--   Step, to_left, to_right, to_outer             what a step ends in: done, or a child to go on with
+--   with_outer_box, above_leaves, least_of        what a step asks and does
+--   sink_right, sink_left, descend, strike_step   one step
+--   after, strike_in, strike_tree                 all steps
+--   holds_code, is_only, map_strike               striking a reading from a map
+--   FittingStep, node_rank_after                  what stays of pairs and of ranks
 use Rattle.std.specs.Prelude.{◌≡◌, ℕ, zero, suc, Bool, false, cond, ◌&&◌, ◌==◌}
 use Rattle.std.proofs.Math.Option.{Option, none, some}
 use Rattle.place.specs.Boxes.{Box, holds}

@@ -1,11 +1,11 @@
 -- The tree of readings, and insertion.
---   Reading                               a place by its code, with a priority and a tally
---   Content, Tree                         what a leaf holds; leaves, shrink nodes and split nodes
---   point_of, extent, box_in, outer         the box of a reading and of a content, the inner box of a leaf, the outer box of a node
---   lies, outside                         whether a reading lies in a box
---   pair, planted, insert                 insertion of one reading
---   insert_all, build, tree_of              insertion of a list of readings
---   nodes, height, map_nodes, map_height    how many nodes a tree has, and how high it is
+--   Reading                                a place by its code, with a priority and a tally
+--   Content, Tree                          what a leaf holds; leaves, shrink nodes and split nodes
+--   point_of, extent, box_in, outer        the box of a reading and of a content, the inner box of a leaf, the outer box of a node
+--   lies, outside                          whether a reading lies in a box
+--   pair, planted, insert                  insertion of one reading
+--   insert_all, build, tree_of             insertion of a list of readings
+--   nodes, height, map_nodes, map_height   how many nodes a tree has, and how high it is
 use Rattle.std.specs.Prelude.{ℕ, suc, ◌+◌, max, Bool, cond, not, List, [], ◌∷◌}
 use Rattle.std.proofs.Math.Option.{Option, none, some}
 use Rattle.place.specs.Boxes.{Box, whole, point, holds, smallest, half}

@@ -1,12 +1,12 @@
 -- The walk over a tree that tallies a shape, and what its answer is.
---   Tests, asked, Agree           what is asked of boxes and codes, the tests of a shape, and tests that answer alike
---   Joins, tally_of, map_tally      a commutative kind of tally, and the tally of a node and of a map
---   Answer, answer                a tally and an expanded count
---   met, taken, both              what a node answers
+--   Tests, asked, Agree            what is asked of boxes and codes, the tests of a shape, and tests that answer alike
+--   Joins, tally_of, map_tally     a commutative kind of tally, and the tally of a node and of a map
+--   Answer, answer                 a tally and an expanded count
+--   met, taken, both               what a node answers
 --   walk, map_walk                 the walk over a tree and over a map
 --   Subset, is_in, every, joined   one set of places in another, and the join over the readings in a set
---   Selects                       a set of places between the inner and the outer set
---   visit, Visits                 a walk with trees that wait, and its steps
+--   Selects                        a set of places between the inner and the outer set
+--   visit, Visits                  a walk with trees that wait, and its steps
 use Rattle.std.specs.Prelude.{◌≡◌, ℕ, suc, ◌+◌, ◌^◌, ◌<◌, Bool, true, false, cond, List, [], ◌∷◌}
 use Rattle.std.proofs.Math.Option.{Option, none, some}
 use Rattle.std.specs.List.{AllByRecursion}

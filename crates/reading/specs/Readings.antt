@@ -1,4 +1,8 @@
 -- What a half reading becomes when the root is read.
+--   numbers_of, numbers_with    the plain numbers of a reading
+--   InTime, Explains            two times that are in time, and the fault of two that are not
+--   Made, Refused, Completes    a half reading completed, or refused
+--   OneAnswer                   completing has one answer only
 use Rattle.std.specs.Prelude.{◌≡◌, ℕ, ◌+◌, ◌<◌, ◌≤◌, Ok, Err, Result}
 use Rattle.reading.specs.Limit.{longest}
 use Rattle.reading.specs.declared.counts.Counts.{Counts}
@@ -16,14 +20,14 @@ abbrev pub numbers_with : HalfReading → ℕ → ℕ → Counts
 numbers_with h root time = record { motor = h.motor; root = root; motor_time = h.time; root_time = time }
 
 -- The root's time neither precedes the motor's nor follows it by more than the longest delay.
-pub record InTime (motorTime rootTime : ℕ) : Type 0 where
-  pub order : motorTime ≤ rootTime
-  pub soon : rootTime ≤ motorTime + longest
+pub record InTime (motor_time root_time : ℕ) : Type 0 where
+  pub order : motor_time ≤ root_time
+  pub soon : root_time ≤ motor_time + longest
 
 -- A fault explains a refusal where the two times are wrong in the way that it names.
 abbrev pub Explains : ReadingFault → ℕ → ℕ → Type 0
-Explains Early motorTime rootTime = rootTime < motorTime
-Explains Late motorTime rootTime = motorTime + longest < rootTime
+Explains Early motor_time root_time = root_time < motor_time
+Explains Late motor_time root_time = motor_time + longest < root_time
 
 -- A whole reading is made where the times agree, and holds exactly the numbers that were read.
 pub record Made (h : HalfReading) (root time : ℕ) (w : WholeReading) : Type 0 where

@@ -7,11 +7,11 @@ use Rattle.place.specs.Boxes.{Box}
 use Rattle.quadtreap.specs.Tree.{Reading, Content, outer, box_in}
 use Rattle.quadtreap.specs.Rank.{Rank, earlier}
 use Rattle.quadtreap.specs.Pairs.{unranked}
-use Rattle.records.specs.PlacedNodes.{shrinks, splits, PlacedNodes, leaf_at, node_at, pair_at, unplaced, carried, inner_numbers, one, occurs, LiesIn, NodeFrame, above}
+use Rattle.records.specs.PlacedNodes.{shrinks, splits, PlacedNodes, leaf_at, node_at, pair_at, unplaced, carried, inner_numbers, one, occurs, NodeFrame, above}
 use Rattle.records.specs.Writes.{Write, wrote, relinked, promoted_left, promoted_outer, ranked, swapped, ordered_in, settled_in, Rise, planted}
 use Rattle.records.specs.PlacedPairs.{PlacedPairs, placed_leaf, placed_pair, nodes_of, top_place, PairFrame, on_left_at, on_right_at, on_outer_at, put_in_all, node_frames, made_before, Free, four}
 use Rattle.records.specs.Elsewhere.{Elsewhere, places_of}
-use Rattle.records.proofs.FrameLaws.{touched, long, reads_on, root_le, same_nodes, occurs_around, occurs_plug, LiesAmong}
+use Rattle.records.proofs.FrameLaws.{touched, long, reads_on, root_le, occurs_around, occurs_plug, LiesAmong}
 use Rattle.records.proofs.PairLaws.{nodes_frames}
 use Rattle.records.proofs.WriteLaws.{relinked_long, relinked_reads}
 use Rattle.records.proofs.PromoteLaws.{left_writes, left_computes, rises_left, outer_writes, outer_computes, rises_outer, rank_writes, rank_computes, swap_writes, swap_computes, ordered_computes}
@@ -29,15 +29,6 @@ wider used used' a b to p = record { long = p.long; reads = λ j h. p.reads j (t
 
 pub by_writes : (used : ℕ → ℕ) (recs : List Record) (ws : List Write) → ((j : ℕ) → used j ≡ 0 → touched j ws ≡ 0) → Elsewhere used recs (wrote ws recs)
 by_writes used recs ws off = record { long = Rattle.records.proofs.FrameLaws.long ws recs; reads = λ j h. reads_on ws recs j (off j h) }
-
--- what lies in a table stays where its records stay
-pub kept_on : {K : Type 0} (used : ℕ → ℕ) (recs recs' : List Record) → Elsewhere used recs recs' → (t : PlacedNodes K) → ((j : ℕ) → 1 ≤ occurs j t → used j ≡ 0) → LiesIn recs t → LiesIn recs' t
-kept_on used recs recs' same t off h = record {
-  laid = same_nodes recs recs' same.long 65535 t (λ j z. same.reads j (off j z)) h.laid;
-  once = h.once;
-  low = h.low;
-  sized = h.sized;
-}
 
 module _ {K : Type 0} where
   abbrev pub used_by : List (NodeFrame K) → PlacedNodes K → ℕ → ℕ

@@ -104,24 +104,6 @@ chain_on used recs recs' same head (p ∷ ps) off h =
       chain_on used recs recs' same (at recs' p).first ps (λ j z. off j (omega arith)) (subst (λ (r : Record). Chain recs r.first ps) (sym (same.reads p (off p (omega arith)))) h.1),
     )
 
--- The free places stay where their records stay.
-pub free_on : (used : ℕ → ℕ) (N : ℕ) (recs recs' : List Record) → Elsewhere used recs recs' → (f : FreePlaces) (spare : List ℕ) → ((j : ℕ) → used j + free_at f spare j ≤ 1) → FreeIn N recs f spare → FreeIn N recs' f spare
-free_on used N recs recs' same f spare apart h = record {
-  chain = chain_on used recs recs' same f.freed spare (λ j z. let a = apart j in omega arith) h.chain;
-  inside = h.inside;
-  fits = h.fits;
-  room = subst (λ n. N ≤ n) (sym same.long) h.room;
-  small = h.small;
-}
-
--- Past the first N places each is free once.
-pub free_past : (N : ℕ) (recs : List Record) (f : FreePlaces) (spare : List ℕ) → FreeIn N recs f spare → (j : ℕ) → N ≤ j → free_at f spare j ≡ 1
-free_past N recs f spare h j far =
-    let a = h.inside j far in
-    let b = h.fits in
-    let c : unused f.fresh j ≡ 1 = ap (λ b. cond {A = ℕ} b 1 0) (le-leb f.fresh j (omega arith)) in
-    omega arith
-
 pub linked_same : (recs : List Record) (f : FreePlaces) (i : ℕ) → Elsewhere (λ j. one j i) recs (linked recs f i)
 linked_same recs f i = record { long = length-set recs i _; reads = λ j u. get_or-set_other recs i j _ blank (differ j i u) }
 

@@ -6,7 +6,7 @@ use Rattle.place.specs.Boxes.{Box, holds}
 use Rattle.quadtreap.specs.Tree.{Tree, outer}
 use Rattle.quadtreap.specs.Rank.{Rank}
 use Rattle.quadtreap.specs.Pairs.{is_leaf, exchanged, promote_left, promote_outer, node_rank, creation, is_none, plug}
-use Rattle.quadtreap.specs.Strike.{Step, done, least_of, with_outer_box, sink_right, sink_left, descend, strike_step, after, strike_in, to_left as treeLeft, to_right as treeRight, to_outer as treeOuter, above_leaves as treeLow}
+use Rattle.quadtreap.specs.Strike.{Step, done, least_of, with_outer_box, sink_right, sink_left, descend, strike_step, after, strike_in, to_left as tree_left, to_right as tree_right, to_outer as tree_outer, above_leaves as tree_low}
 use Rattle.records.specs.PlacedPairs.{PlacedPairs, placed_leaf, placed_pair, tree_in, rank, RanksStand, PairFrame, on_left_at, on_right_at, on_outer_at, put_in, frame}
 use Rattle.records.specs.StrikeMoves.{StrikeMove, finished, onward, lost, move_of, step_of, made_at, is_leaf_at, replaced_at, Pair, whole, above_leaves, to_left, to_right, left_over, outer_over, exchanged_at, move_right, move_left, move_toward, move_pair, after_move, moves_in}
 use Rattle.records.proofs.PairLaws.{rank_node_rank}
@@ -29,12 +29,12 @@ module _ {K : Type 0} where
   replace_is B (placed_pair s w r C i E L R O) = refl
 
   left_is : (s w : ℕ) (r : Rank) (C : Box) (i : Option Box) (E : Box) (L R O : PlacedPairs K) (b c : Option Rank) → least_of (made_at L) b c ≡ true
-      → step_of (left_over (record { shrink = s; split = w; rank = r; outer = C; inner = i; box = E; left = L; right = R; out = O }) L) ≡ treeOuter (promote_left (tree_in (placed_pair s w r C i E L R O)))
+      → step_of (left_over (record { shrink = s; split = w; rank = r; outer = C; inner = i; box = E; left = L; right = R; out = O }) L) ≡ tree_outer (promote_left (tree_in (placed_pair s w r C i E L R O)))
   left_is s w r C i E (placed_leaf j B d) R O b c e = absurd (false≢true e)
   left_is s w r C i E (placed_pair y v q B k F A D o) R O b c e = refl
 
   outer_is : (s w : ℕ) (r : Rank) (C : Box) (i : Option Box) (E : Box) (L R O : PlacedPairs K) (a : Rank) (b c : Option Rank) → least_of (made_at O) b c ≡ true
-      → step_of (outer_over (record { shrink = s; split = w; rank = r; outer = C; inner = i; box = E; left = L; right = R; out = O }) O a) ≡ treeLeft (promote_outer (tree_in (placed_pair s w r C i E L R O)))
+      → step_of (outer_over (record { shrink = s; split = w; rank = r; outer = C; inner = i; box = E; left = L; right = R; out = O }) O a) ≡ tree_left (promote_outer (tree_in (placed_pair s w r C i E L R O)))
   outer_is s w r C i E L R (placed_leaf j B d) a b c e = absurd (false≢true e)
   outer_is s w r C i E L R (placed_pair y v q B k F A D o) a b c e = refl
 
@@ -51,7 +51,7 @@ module _ {K : Type 0} where
     abbrev O : PlacedPairs K
     O = x.out
 
-    low_is : above_leaves x ≡ treeLow t
+    low_is : above_leaves x ≡ tree_low t
     low_is =
         ap (λ v. v && (is_leaf_at R && is_leaf_at O)) (leaf_is_leaf L) ∙ ap (λ v. is_leaf (tree_in L) && (v && is_leaf_at O)) (leaf_is_leaf R) ∙ ap (λ v. is_leaf (tree_in L) && (is_leaf (tree_in R) && v)) (leaf_is_leaf O)
 
@@ -60,28 +60,28 @@ module _ {K : Type 0} where
         ap (λ v. least_of v (made_at b) (made_at c)) (made_is a ha) ∙ ap (λ v. least_of (creation (tree_in a)) v (made_at c)) (made_is b hb) ∙ ap (least_of (creation (tree_in a)) (creation (tree_in b))) (made_is c hc)
 
     abbrev by_right : Bool → Bool → Bool → Step K
-    by_right u v w = cond u (done (with_outer_box x.outer (tree_in L))) (cond v (treeOuter (promote_left t)) (cond w (treeLeft (promote_outer t)) (treeRight t)))
+    by_right u v w = cond u (done (with_outer_box x.outer (tree_in L))) (cond v (tree_outer (promote_left t)) (cond w (tree_left (promote_outer t)) (tree_right t)))
 
     right_is : step_of (move_right x) ≡ sink_right t
     right_is =
         choose (above_leaves x) _ _ _ _ (λ _. ap done (replace_is x.outer L))
         (λ _. choose (least_of (made_at L) (made_at R) (made_at O)) _ _ _ _ (left_is x.shrink x.split x.rank x.outer x.inner x.box L R O (made_at R) (made_at O))
-        (λ _. choose (least_of (made_at O) (made_at L) (made_at R)) _ _ _ (treeRight t) (outer_is x.shrink x.split x.rank x.outer x.inner x.box L R O (rank L) (made_at L) (made_at R)) (λ _. refl)))
+        (λ _. choose (least_of (made_at O) (made_at L) (made_at R)) _ _ _ (tree_right t) (outer_is x.shrink x.split x.rank x.outer x.inner x.box L R O (rank L) (made_at L) (made_at R)) (λ _. refl)))
         ∙ ap (λ u. by_right u (least_of (made_at L) (made_at R) (made_at O)) (least_of (made_at O) (made_at L) (made_at R))) low_is
-        ∙ ap (λ u. by_right (treeLow t) u (least_of (made_at O) (made_at L) (made_at R))) (least L R O h.1 h.2 h.3)
-        ∙ ap (by_right (treeLow t) (least_of (creation (tree_in L)) (creation (tree_in R)) (creation (tree_in O)))) (least O L R h.3 h.1 h.2)
+        ∙ ap (λ u. by_right (tree_low t) u (least_of (made_at O) (made_at L) (made_at R))) (least L R O h.1 h.2 h.3)
+        ∙ ap (by_right (tree_low t) (least_of (creation (tree_in L)) (creation (tree_in R)) (creation (tree_in O)))) (least O L R h.3 h.1 h.2)
 
     abbrev by_left : Bool → Bool → Bool → Step K
-    by_left u v w = cond u (done (with_outer_box x.outer (tree_in R))) (cond v (treeOuter (promote_left (exchanged t))) (cond w (treeLeft (promote_outer t)) (treeRight (exchanged t))))
+    by_left u v w = cond u (done (with_outer_box x.outer (tree_in R))) (cond v (tree_outer (promote_left (exchanged t))) (cond w (tree_left (promote_outer t)) (tree_right (exchanged t))))
 
     sink_left_is : step_of (move_left x) ≡ sink_left t
     sink_left_is =
         choose (above_leaves x) _ _ _ _ (λ _. ap done (replace_is x.outer R))
         (λ _. choose (least_of (made_at R) (made_at L) (made_at O)) _ _ _ _ (left_is x.shrink x.split (rank R) x.outer x.inner x.box R L O (made_at L) (made_at O))
-        (λ _. choose (least_of (made_at O) (made_at L) (made_at R)) _ _ _ (treeRight (exchanged t)) (outer_is x.shrink x.split x.rank x.outer x.inner x.box L R O (rank R) (made_at L) (made_at R)) (λ _. refl)))
+        (λ _. choose (least_of (made_at O) (made_at L) (made_at R)) _ _ _ (tree_right (exchanged t)) (outer_is x.shrink x.split x.rank x.outer x.inner x.box L R O (rank R) (made_at L) (made_at R)) (λ _. refl)))
         ∙ ap (λ u. by_left u (least_of (made_at R) (made_at L) (made_at O)) (least_of (made_at O) (made_at L) (made_at R))) low_is
-        ∙ ap (λ u. by_left (treeLow t) u (least_of (made_at O) (made_at L) (made_at R))) (least R L O h.2 h.1 h.3)
-        ∙ ap (by_left (treeLow t) (least_of (creation (tree_in R)) (creation (tree_in L)) (creation (tree_in O)))) (least O L R h.3 h.1 h.2)
+        ∙ ap (λ u. by_left (tree_low t) u (least_of (made_at O) (made_at L) (made_at R))) (least R L O h.2 h.1 h.3)
+        ∙ ap (by_left (tree_low t) (least_of (creation (tree_in R)) (creation (tree_in L)) (creation (tree_in O)))) (least O L R h.3 h.1 h.2)
 
     toward_is : (k : ℕ) → step_of (move_toward x k) ≡ descend t k
     toward_is k = choose (holds x.box k) _ _ _ _ (λ _. choose (holds (outer (tree_in L)) k) _ _ _ _ (λ _. refl) (λ _. refl)) (λ _. refl)

@@ -1,6 +1,6 @@
 -- What a write leaves alone.
---   Elsewhere     nothing changed but at some places
---   places_of      the places of the nodes of a tree
+--   Elsewhere   nothing changed but at some places
+--   places_of   the places of the nodes of a tree
 use Rattle.std.specs.Prelude.{◌≡◌, ℕ, List, length}
 use Rattle.records.specs.declared.record.Record.{Record}
 use Rattle.records.specs.PlacedNodes.{occurs}

@@ -1,8 +1,8 @@
 -- The free places: those never used, and the chain of those given back.
---   next, left_after, four_taken, four_left      the next free place, and the free places after it is taken
---   linked, given_back                         the table and the free places after a place is given back
---   four_linked, four_given                     the same of four places
---   among, unused, free_at                     how often a place is free
+--   next, left_after, four_taken, four_left   the next free place, and the free places after it is taken
+--   linked, given_back                        the table and the free places after a place is given back
+--   four_linked, four_given                   the same of four places
+--   among, unused, free_at                    how often a place is free
 --   Chain, FreeIn                             the free places of a table
 --   Opens, TakesOne, TakesFour                what it is to take a free place
 --   GivesOne, GivesFour                       what it is to give a place back

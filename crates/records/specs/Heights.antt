@@ -1,6 +1,6 @@
 -- The height of the tree under a node of a table.
 --   height_in   the height that the records tell
---   Heights    the answer is the height of the tree that lies in the table
+--   Heights     the answer is the height of the tree that lies in the table
 use Rattle.std.specs.Prelude.{◌≡◌, ℕ, zero, suc, ◌≤◌, max, cond, List, nat_lt}
 use Rattle.records.specs.declared.record.Record.{Record}
 use Rattle.quadtreap.specs.Tree.{nodes, height}

@@ -1,12 +1,12 @@
 -- Trees of pairs with the places of their nodes, and the steps of the rise with places.
---   PlacedPairs, nodes_of, tree_in, top_place, rank     a tree of pairs with places, its nodes, the tree, its root
---   rank_at, RanksStand                               each pair carries the rank of its first reading
---   PairFrame, put_in, put_in_all                       a pair without one of its children
---   frame, frames, node_frames                        its frame in the tree, and its frames in the table
---   FrameRanksStand, FramesRanksStand                the ranks that frames carry
---   ordered_at, made_before, over_left, over_outer, settled_at, settled_all, risen_over    the rise
---   Reaches                                          a code leads to a leaf
---   four, Free, planted_at                            a new pair at four places that no node has
+--   PlacedPairs, nodes_of, tree_in, top_place, rank                                       a tree of pairs with places, its nodes, the tree, its root
+--   rank_at, RanksStand                                                                   each pair carries the rank of its first reading
+--   PairFrame, put_in, put_in_all                                                         a pair without one of its children
+--   frame, frames, node_frames                                                            its frame in the tree, and its frames in the table
+--   FrameRanksStand, FramesRanksStand                                                     the ranks that frames carry
+--   ordered_at, made_before, over_left, over_outer, settled_at, settled_all, risen_over   the rise
+--   Reaches                                                                               a code leads to a leaf
+--   four, Free, planted_at                                                                a new pair at four places that no node has
 use Rattle.std.specs.Prelude.{◌≡◌, ℕ, ◌+◌, ◌<◌, ◌≤◌, Bool, true, false, cond, List, [], ◌∷◌, length}
 use Rattle.std.proofs.Math.Option.{Option, none, some}
 use Rattle.records.specs.declared.record.Record.{Record}

@@ -1,11 +1,11 @@
 -- What the functions promise where a tree lies in the table.
---   Holds, LeftRises, OuterRises, Orders     promotions, and the order of a pair
---   Descends                                 the way down
---   PlantedFirst, PlantsFirst                the first reading
---   Planted, Plants                          a new reading
---   Rises, Settles                           one step of the rise
---   Moved, MovesDown, Sinks                  one step of a strike
---   Frees, Misses, StruckTree, Strikes       the whole strike
+--   Holds, LeftRises, OuterRises, Orders   promotions, and the order of a pair
+--   Descends                               the way down
+--   PlantedFirst, PlantsFirst              the first reading
+--   Planted, Plants                        a new reading
+--   Rises, Settles                         one step of the rise
+--   Moved, MovesDown, Sinks                one step of a strike
+--   Frees, Misses, StruckTree, Strikes     the whole strike
 use Rattle.std.specs.Prelude.{◌≡◌, ℕ, ◌+◌, ◌<◌, ◌≤◌, ◌⊎◌, List, [], ◌∷◌, length}
 use Rattle.std.proofs.Math.Option.{Option, some}
 use Rattle.records.specs.declared.record.Record.{Record}
@@ -15,8 +15,8 @@ use Rattle.records.specs.declared.places.Sinking.TheVariants.{On, Done, Lost}
 use Rattle.place.specs.Boxes.{Box, whole, smallest}
 use Rattle.quadtreap.specs.Tree.{Reading, Content, reading, Tree, leaf, tree_of, outer, nodes, point_of, extent}
 use Rattle.quadtreap.specs.Rank.{Rank}
-use Rattle.quadtreap.specs.Pairs.{promote_left, promote_outer, unranked, ordered as orderedTree, Paired}
-use Rattle.quadtreap.specs.Enter.{settle as settleTree, plant as plantTree}
+use Rattle.quadtreap.specs.Pairs.{promote_left, promote_outer, unranked, ordered as ordered_tree, Paired}
+use Rattle.quadtreap.specs.Enter.{settle as settle_tree, plant as plant_tree}
 use Rattle.quadtreap.specs.Strike.{strike_step, strike_tree}
 use Rattle.records.specs.PlacedNodes.{LiesIn, one, occurs}
 use Rattle.records.specs.PlacedPairs.{PlacedPairs, placed_leaf, placed_pair, nodes_of, tree_in, top_place, RanksStand, PairFrame, put_in, put_in_all, frame, FrameRanksStand, ordered_at, settled_at, risen_over, Reaches, Free, four, planted_at}
@@ -48,7 +48,7 @@ abbrev pub Orders : Type 0 → List Record → List Record → ℕ → Type 0
 Orders K entry exit s =
     (gs : List (PairFrame K)) (w : ℕ) (r : Rank) (C E : Box) (i : Option Box) (L R O : PlacedPairs K) → RanksStand L → RanksStand R
     → LiesIn entry (nodes_of (put_in_all gs (placed_pair s w r C i E L R O)))
-    → Holds entry exit gs (placed_pair s w r C i E L R O) (ordered_at s w C i E L R O) (orderedTree (tree_in (placed_pair s w r C i E L R O)))
+    → Holds entry exit gs (placed_pair s w r C i E L R O) (ordered_at s w C i E L R O) (ordered_tree (tree_in (placed_pair s w r C i E L R O)))
 
 -- The code k leads from the root to the leaf at i.
 abbrev pub Descends : Type 0 → List Record → ℕ → ℕ → ℕ → ℕ → Type 0
@@ -69,7 +69,7 @@ PlantsFirst K entry exit i k priority =
 -- The leaf at i is a pair, at the places n. Nothing else changed.
 pub record Planted {K : Type 0} (entry exit : List Record) (gs : List (PairFrame K)) (n : FourPlaces) (i : ℕ) (C : Box) (c : Content K) (p : Reading K) : Type 0 where
   pub kept : LiesIn exit (nodes_of (put_in_all gs (planted_at n i C c p)))
-  pub tree : tree_in (planted_at n i C c p) ≡ plantTree (leaf C c) p
+  pub tree : tree_in (planted_at n i C c p) ≡ plant_tree (leaf C c) p
   pub right : RanksStand (planted_at n i C c p)
   pub top : top_place (planted_at n i C c p) ≡ n.shrink
   pub places : (j : ℕ) → occurs j (nodes_of (planted_at n i C c p)) ≡ one j i + four j n
@@ -85,7 +85,7 @@ Plants K entry exit i k priority n =
 -- One step of the rise: t is settled in its frame, `top` is in its place, and `low` is the pair that it rose over. Nothing else changed.
 pub record Rises {K : Type 0} (entry exit : List Record) (gs : List (PairFrame K)) (g : PairFrame K) (t : PlacedPairs K) (top low : ℕ) : Type 0 where
   pub kept : LiesIn exit (nodes_of (put_in_all gs (settled_at g t)))
-  pub tree : tree_in (settled_at g t) ≡ settleTree (frame g) (tree_in t)
+  pub tree : tree_in (settled_at g t) ≡ settle_tree (frame g) (tree_in t)
   pub right : RanksStand (settled_at g t)
   pub at_top : top ≡ top_place (settled_at g t)
   pub below : low ≡ risen_over g t

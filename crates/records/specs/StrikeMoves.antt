@@ -1,10 +1,10 @@
 -- The steps of a strike with places.
---   StrikeMove, step_of                              what a step ends in
---   made_at, is_leaf_at, replaced_at                    what a step asks of a child, and does to it
---   Pair, whole, above_leaves, freed, exchanged_at    a pair that is taken apart
---   to_left, to_right, to_outer, left_over, outer_over   a child to go on with, and a child that rises
+--   StrikeMove, step_of                                      what a step ends in
+--   made_at, is_leaf_at, replaced_at                         what a step asks of a child, and does to it
+--   Pair, whole, above_leaves, freed, exchanged_at           a pair that is taken apart
+--   to_left, to_right, to_outer, left_over, outer_over       a child to go on with, and a child that rises
 --   move_right, move_left, move_toward, move_pair, move_of   one step
---   after_move, moves_in                              all steps
+--   after_move, moves_in                                     all steps
 use Rattle.std.specs.Prelude.{ℕ, zero, suc, Bool, true, false, cond, ◌&&◌, ◌==◌}
 use Rattle.std.proofs.Math.Option.{Option, none, some}
 use Rattle.records.specs.declared.places.FourPlaces.{FourPlaces}

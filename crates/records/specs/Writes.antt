@@ -1,16 +1,16 @@
 -- What the functions make of a table, for any contents of it.
---   at, Write, write, wrote                         one record read, and records written one after another
---   with_first, .., with_rank, rank_in, with_rank_of     a record with one part changed
---   box_of, half_numbers, content_numbers              the boxes of a record
---   leaf_record, node_record                          new records
---   renamed, relinked                               a node names another child
---   promoted_left, promoted_outer                     a child pair rises
---   ranked, swapped, no_inner, ordered_in             the rank of a pair and the order of its children
---   made_by, earlier_in, Rise, risen, settled_in       one step of the rise
---   descended                                       the way of a code down
---   joined_in, planted, first_planted                 a new reading
---   least_in, above_leaves_in, replaced_in, freed_in, raised_outer, child_toward    what a step of a strike asks and does
---   Sink, sinks, sunk_right, sunk_left, sunk_pair, sunk_in, followed, struck_in   the steps of a strike
+--   at, Write, write, wrote                                                        one record read, and records written one after another
+--   with_first, .., with_rank, rank_in, with_rank_of                               a record with one part changed
+--   box_of, half_numbers, content_numbers                                          the boxes of a record
+--   leaf_record, node_record                                                       new records
+--   renamed, relinked                                                              a node names another child
+--   promoted_left, promoted_outer                                                  a child pair rises
+--   ranked, swapped, no_inner, ordered_in                                          the rank of a pair and the order of its children
+--   made_by, earlier_in, Rise, risen, settled_in                                   one step of the rise
+--   descended                                                                      the way of a code down
+--   joined_in, planted, first_planted                                              a new reading
+--   least_in, above_leaves_in, replaced_in, freed_in, raised_outer, child_toward   what a step of a strike asks and does
+--   Sink, sinks, sunk_right, sunk_left, sunk_pair, sunk_in, followed, struck_in    the steps of a strike
 use Rattle.std.specs.Prelude.{ℕ, zero, suc, min, Bool, true, false, cond, List, [], ◌∷◌, ◌==◌, nat_lt, slice_index_or, slice_set}
 use Rattle.records.specs.declared.record.BoxNumbers.{BoxNumbers}
 use Rattle.records.specs.declared.record.Record.{Record}

@@ -1,6 +1,6 @@
 //! The record of a node.
 ghost use Rattle.std.specs.Prelude.{◌≡◌};
-ghost use Rattle.place.specs.Boxes.{point, holds as holds_code, smallest as smallestOf};
+ghost use Rattle.place.specs.Boxes.{point, holds as holds_code, smallest as smallest_of};
 ghost use Rattle.place.specs.Values.{box_of as box_in};
 ghost use Rattle.quadtreap.specs.Rank.{earlier};
 ghost use Rattle.records.specs.PlacedNodes.{numbers_of};
@@ -64,7 +64,7 @@ impl BoxNumbers {
 
     /// The smallest box of the box of the numbers and a code.
     pub fn smallest(self, code: u32) -> PlaceBox
-        ensures value { box_in result ≡ smallestOf (box_of self) (point code) }
+        ensures value { box_in result ≡ smallest_of (box_of self) (point code) }
     {
         PlaceBox::new(self.depth, self.code).smallest(code)
     }

@@ -5,23 +5,23 @@
 --   fault_report             what the line of its record says
 use Rattle.std.specs.Prelude.{ℕ, ◌+◌, cond, nat_lt}
 use Rattle.std.proofs.Math.Option.{Option, none, some}
-use Rattle.journal.specs.Faults.{fault_number as formatNumber}
+use Rattle.journal.specs.Faults.{fault_number as format_number}
 use Rattle.journal.specs.declared.report.Report.{Report}
 use Rattle.journal.specs.declared.report.Report.TheVariants.{Refused, Stopped}
-use Rattle.reading.specs.Faults.{number as readingNumber}
+use Rattle.reading.specs.Faults.{number as reading_number}
 use Rattle.reading.specs.Limit.{longest}
 use Rattle.reading.specs.declared.fault.ReadingFault.{ReadingFault}
 use Rattle.reading.specs.declared.fault.ReadingFault.TheVariants.{Early, Late}
-use Rattle.shape.specs.Faults.{fault_number as shapeNumber}
+use Rattle.shape.specs.Faults.{fault_number as shape_number}
 use Rattle.shape.specs.declared.fault.ShapeFault.{ShapeFault}
 use Rattle.shape.specs.declared.fault.ShapeFault.TheVariants.{OuterRadiusTooLarge, InnerRadiusAboveOuter, MotorEndsReversed, RootEndsReversed}
-use Rattle.tables.specs.Calls.{fault_number as mapNumber}
+use Rattle.tables.specs.Calls.{fault_number as map_number}
 use Rattle.replay.specs.declared.fault.StepFault.{StepFault}
 use Rattle.replay.specs.declared.fault.StepFault.TheVariants.{Format, Reading, Shape, Map}
 
 -- The fault of the two times, if there is one: the root's time precedes the motor's, or else it follows it by more than the longest delay.
 abbrev pub time_fault : ℕ → ℕ → Option ReadingFault
-time_fault motorTime rootTime = cond (nat_lt rootTime motorTime) (some Early) (cond (nat_lt (motorTime + longest) rootTime) (some Late) none)
+time_fault motor_time root_time = cond (nat_lt root_time motor_time) (some Early) (cond (nat_lt (motor_time + longest) root_time) (some Late) none)
 
 -- The fault of the radii of a disc, if there is one: the outer radius R is too large, or else the inner radius r is above it.
 abbrev pub disc_fault : ℕ → ℕ → Option ShapeFault
@@ -33,14 +33,14 @@ band_fault lm hm lr hr = cond (nat_lt hm lm) (some MotorEndsReversed) (cond (nat
 
 -- The number of a fault is that of the fault that it holds: 1 and 2 of a reading, 3 to 6 of a shape, 7 to 9 of the map, 10 to 14 of the bytes.
 abbrev pub step_number : StepFault → ℕ
-step_number (Format f) = formatNumber f
-step_number (Reading f) = readingNumber f
-step_number (Shape f) = shapeNumber f
-step_number (Map f) = mapNumber f
+step_number (Format f) = format_number f
+step_number (Reading f) = reading_number f
+step_number (Shape f) = shape_number f
+step_number (Map f) = map_number f
 
 -- A fault of the bytes stops the run, and any other refuses the record.
 abbrev pub fault_report : StepFault → Report
-fault_report (Format f) = Stopped (formatNumber f)
-fault_report (Reading f) = Refused (readingNumber f)
-fault_report (Shape f) = Refused (shapeNumber f)
-fault_report (Map f) = Refused (mapNumber f)
+fault_report (Format f) = Stopped (format_number f)
+fault_report (Reading f) = Refused (reading_number f)
+fault_report (Shape f) = Refused (shape_number f)
+fault_report (Map f) = Refused (map_number f)

@@ -1,5 +1,5 @@
 -- The line that is printed of the answer of a record.
---   numbered   the answer with the number of its record beside the fault
+--   numbered    the answer with the number of its record beside the fault
 --   line_text   the bytes of the line
 use Rattle.std.specs.Prelude.{ℕ, List, Ok, Err, Result}
 use Rattle.journal.specs.Lines.{printed}

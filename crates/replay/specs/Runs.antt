@@ -1,12 +1,12 @@
 -- A whole run: the printout of a journal.
---   places_used             how many places the map of a run has
---   spelled_all           the bytes of some records, one after another
---   printout             the lines of some records, one after another
---   AllFit, AllLawful    records whose numbers fit, and what is promised of their answers
---   Ending, Ends         how a run ends after its records
---   Follows, Prints      the printout of the bytes after the heading, and by the heading
---   Replays              the printout of a journal
---   OnePrintout          a journal has one printout only
+--   places_used         how many places the map of a run has
+--   spelled_all         the bytes of some records, one after another
+--   printout            the lines of some records, one after another
+--   AllFit, AllLawful   records whose numbers fit, and what is promised of their answers
+--   Ending, Ends        how a run ends after its records
+--   Follows, Prints     the printout of the bytes after the heading, and by the heading
+--   Replays             the printout of a journal
+--   OnePrintout         a journal has one printout only
 use Rattle.std.specs.Prelude.{◌≡◌, ℕ, suc, ◌+◌, min, List, [], ◌∷◌, ◌++◌, length, Ok, Err, Result, ◌≢◌}
 use Rattle.tables.specs.Calls.{Call, roll}
 use Rattle.journal.specs.Faults.{fault_number}

@@ -1,11 +1,11 @@
 -- What a record of a journal asks of the map, and what it is answered.
---   Completed                      a reading taken and completed, or the fault of its times
+--   Completed                       a reading taken and completed, or the fault of its times
 --   call_of                         the call on the map that a record makes
 --   of_map, found, Found, tallied   an answer of the map as the answer of a record
 --   refused_by, served              the answer of a record, reckoned from the live readings
---   Lawful, DiscLaw, Law           what is promised of the tally of a record
---   leaves                         the answers after which the map is as it was
---   Stepped, Steps                 what a step promises after some calls, and after any calls
+--   Lawful, DiscLaw, Law            what is promised of the tally of a record
+--   leaves                          the answers after which the map is as it was
+--   Stepped, Steps                  what a step promises after some calls, and after any calls
 use Rattle.std.specs.Prelude.{◌≡◌, ℕ, ◌*◌, ◌≤◌, Bool, true, false, cond, List, Ok, Err, Result}
 use Rattle.std.proofs.Math.Option.{Option, none, some}
 use Rattle.reading.specs.declared.fault.ReadingFault.{ReadingFault}
@@ -32,17 +32,17 @@ use Rattle.replay.specs.Weights.{Weighed, joined, neutral, weighed}
 
 -- The reading has the counts that were read and there is no fault of its times, or the fault is that of its times.
 abbrev pub Completed : ℕ → ℕ → ℕ → ℕ → Result WholeReading ReadingFault → Type 0
-Completed motor motorTime root rootTime (Ok w) = (time_fault motorTime rootTime ≡ none) × (w.motor ≡ motor) × (w.root ≡ root)
-Completed motor motorTime root rootTime (Err f) = time_fault motorTime rootTime ≡ some f
+Completed motor motor_time root root_time (Ok w) = (time_fault motor_time root_time ≡ none) × (w.motor ≡ motor) × (w.root ≡ root)
+Completed motor motor_time root root_time (Err f) = time_fault motor_time root_time ≡ some f
 
 -- A record enters a reading whose times are right, joins a tally, strikes a reading, or asks a question. A reading that is not completed counts as a question, which changes nothing.
 abbrev pub call_of : Entry → Call Weighed
-call_of (Enter motor motorTime root rootTime priority weight) =
-    cond (is_some (time_fault motorTime rootTime)) asks (enter_at motor root priority (weighed weight rootTime))
+call_of (Enter motor motor_time root root_time priority weight) =
+    cond (is_some (time_fault motor_time root_time)) asks (enter_at motor root priority (weighed weight root_time))
 call_of (Again motor root time weight) = again_at motor root (weighed weight time)
 call_of (Strike motor root) = strike_at motor root
 call_of (Disc motor root inner outer) = asks
-call_of (Band lowestMotor highestMotor lowestRoot highestRoot margin) = asks
+call_of (Band lowest_motor highest_motor lowest_root highest_root margin) = asks
 call_of Height = asks
 
 -- The number live, or the fault of the map.
@@ -71,8 +71,8 @@ refused_by wrap none a = a
 
 -- The answer of a record in a map of N places, where the readings rs are live.
 abbrev pub served : ℕ → Entry → List (Reading Weighed) → Result Report StepFault
-served N (Enter motor motorTime root rootTime priority weight) rs =
-    refused_by OfReading (time_fault motorTime rootTime) (of_map (reply N (enter_at motor root priority (weighed weight rootTime)) rs))
+served N (Enter motor motor_time root root_time priority weight) rs =
+    refused_by OfReading (time_fault motor_time root_time) (of_map (reply N (enter_at motor root priority (weighed weight root_time)) rs))
 served N (Again motor root time weight) rs = of_map (reply N (again_at motor root (weighed weight time)) rs)
 served N (Strike motor root) rs = of_map (reply N (strike_at motor root) rs)
 served N (Disc motor root inner outer) rs = refused_by OfShape (disc_fault inner outer) (Ok (tallied (within motor root inner) (within motor root outer) rs))
@@ -91,7 +91,7 @@ pub record DiscLaw (N motor root inner outer : ℕ) (cs : List (Call Weighed)) :
 
 -- What is promised of the answer of a record after the calls cs: a disc and a band that are not refused are tallied by the map's law.
 abbrev pub Law : ℕ → Entry → List (Call Weighed) → Type 0
-Law N (Enter motor motorTime root rootTime priority weight) cs = Unit {0}
+Law N (Enter motor motor_time root root_time priority weight) cs = Unit {0}
 Law N (Again motor root time weight) cs = Unit {0}
 Law N (Strike motor root) cs = Unit {0}
 Law N (Disc motor root inner outer) cs = disc_fault inner outer ≡ none → DiscLaw N motor root inner outer cs

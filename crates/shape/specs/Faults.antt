@@ -1,5 +1,5 @@
 -- Why a shape is refused.
---   fault_number              the number of each refusal
+--   fault_number   the number of each refusal
 --   DiscRefused, BandRefused when each refusal is answered
 use Rattle.std.specs.Prelude.{ℕ, ◌<◌, ◌≤◌}
 use Rattle.shape.specs.declared.fault.ShapeFault.{ShapeFault}

@@ -1,7 +1,7 @@
 //! The trait of shapes.
 ghost use Rattle.std.specs.Prelude.{◌≡◌, ℕ, ◌^◌, ◌<◌, Bool, true};
 ghost use Rattle.place.specs.Values.{in_rectangle};
-ghost use Rattle.crossing.specs.Regions.{misses as missesPlaces, held as holdsPlaces};
+ghost use Rattle.crossing.specs.Regions.{misses as misses_places, held as holds_places};
 
 use place::{Place, Rectangle};
 
@@ -14,11 +14,11 @@ pub trait Shape {
 
     /// Whether no place of a rectangle is in the inner set.
     fn misses(&self, region: Rectangle) -> bool
-        ensures { result ≡ missesPlaces (in_rectangle region) (inner self.now) };
+        ensures { result ≡ misses_places (in_rectangle region) (inner self.now) };
 
     /// Whether every place of a rectangle is in the outer set.
     fn held(&self, region: Rectangle) -> bool
-        ensures { result ≡ holdsPlaces (in_rectangle region) (outer self.now) };
+        ensures { result ≡ holds_places (in_rectangle region) (outer self.now) };
 
     /// Whether a place is in the inner set.
     fn has(&self, place: Place) -> bool

@@ -98,13 +98,13 @@ module _ {K : Type 0} (join : K → K → K) (e : K) where
         let some-room : 0 < s.places = omega (arith, leb-false ((s.places + 3) / 4) s.live room) in
         let gone : present k rs ≡ false = ap is_some (none_found k join e s _ st is) in
         let open' : full s.places rs ≡ false = full_is s rs false st room in
-        let treeIn' : rs ≡ [] = no_readings join e k priority v s rs st is small some-room in
+        let tree_in' : rs ≡ [] = no_readings join e k priority v s rs st is small some-room in
         let below = first_below join e k priority v s rs st is small some-room in
         record {
           stands =
-              subst (Stands join e (started s k priority v)) (ap (put (reads k priority v)) (sym treeIn') ∙ sym (accepted_roll s.places rs gone open'))
+              subst (Stands join e (started s k priority v)) (ap (put (reads k priority v)) (sym tree_in') ∙ sym (accepted_roll s.places rs gone open'))
               (stands_first join e k priority v s rs st is small some-room);
-          answer = ap (λ (l : List (Reading K)). Ok (suc (length l))) (sym treeIn') ∙ sym (accepted_reply s.places rs gone open');
+          answer = ap (λ (l : List (Reading K)). Ok (suc (length l))) (sym tree_in') ∙ sym (accepted_reply s.places rs gone open');
           places = refl;
           records_past = λ j d h. get_or-set_other s.records (takes s.freed s.fresh) j _ d (λ z. let q : ⊥ = omega arith in q);
           tallies_past = λ j d h. get_or-set_other s.tallies (takes s.freed s.fresh) j _ d (λ z. let q : ⊥ = omega arith in q);

@@ -24,12 +24,12 @@ empty_list (r ∷ rs) h = absurd (mathlib.Core.Bool.true≢false (ap is_some h))
 one_le : (i j : ℕ) → one i j ≤ 1
 one_le i j = elim (cases_eq i j) [ inl is ↦ let h : one i j ≡ 1 = subst (λ n. one i n ≡ 1) is (one_same i) in omega arith | inr far ↦ let h = one_not i j far in omega arith ]
 
-module _ {K : Type 0} (join : K → K → K) (e : K) (k priority : ℕ) (v : K) (s : State K) (rs : List (Reading K)) (st : Stands join e s rs) (treeIn' : s.root ≡ 65535) (small : k < 2 ^ 32) (room : 0 < s.places) where
+module _ {K : Type 0} (join : K → K → K) (e : K) (k priority : ℕ) (v : K) (s : State K) (rs : List (Reading K)) (st : Stands join e s rs) (tree_in' : s.root ≡ 65535) (small : k < 2 ^ 32) (room : 0 < s.places) where
   abbrev p : Reading K
   p = reads k priority v
 
   no_nest : st.placed ≡ none
-  no_nest = none_of k join e s.records s.tallies s.root st.placed st.lies st.top treeIn'
+  no_nest = none_of k join e s.records s.tallies s.root st.placed st.lies st.top tree_in'
 
   pub no_readings : rs ≡ []
   no_readings = empty_list rs (sym st.tree ∙ ap map_tree no_nest)

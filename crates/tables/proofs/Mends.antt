@@ -140,12 +140,12 @@ module _ {K : Type 0} (join : K → K → K) (e : K) where
       let os = one_same s in
       let ow = one_same w in
       let m = mends_ordered recs ts (above (node_frames gs)) s w C g E (nodes_of L) (nodes_of R) (nodes_of O) (subst (NodesRecorded recs (above (node_frames gs))) is h.laid) (λ j. let q = once j in omega arith) far ins inw hl hr ho in
-      let occursAll : (j : ℕ) → occurs j (nodes_of (ordered_at s w C g E L R O)) ≡ (one j s + ((one j w + (occurs j (nodes_of L) + occurs j (nodes_of R))) + occurs j (nodes_of O))) = λ j. places_ordered s w C g E L R O j in
+      let occurs_all : (j : ℕ) → occurs j (nodes_of (ordered_at s w C g E L R O)) ≡ (one j s + ((one j w + (occurs j (nodes_of L) + occurs j (nodes_of R))) + occurs j (nodes_of O))) = λ j. places_ordered s w C g E L R O j in
       subst (λ (l : List K). Steps ts l gs (ordered_at s w C g E L R O)) (ap (mended join e recs s) (sym (mended_none recs ts)))
       record {
         totals = subst (Totals join e (mended join e recs s ts)) (sym is) m.totals;
         beside = beside_in (λ j. one j s + one j w) ts (mended join e recs s ts) m.beyond (node_frames gs) (λ j z. let q = once j in omega arith) bes;
-        beyond = record { long = m.beyond.long; reads = λ j d z. let q = occursAll j in m.beyond.reads j d (omega arith) };
+        beyond = record { long = m.beyond.long; reads = λ j d z. let q = occurs_all j in m.beyond.reads j d (omega arith) };
       }
 
   -- the left child rises

@@ -1,9 +1,9 @@
 -- The calls that a map takes, and the roll: the readings that are live after them, reckoned from the calls alone.
 --   Call, enter_at, again_at, strike_at   a call, by the code or by the place of a reading
---   present, full                      when a place is taken, and when the places are full
---   next, roll                         the live readings after one more call, and after all calls
---   Reply, reply                       what a call answers
---   fault_number                        the number of each refusal
+--   present, full                         when a place is taken, and when the places are full
+--   next, roll                            the live readings after one more call, and after all calls
+--   Reply, reply                          what a call answers
+--   fault_number                          the number of each refusal
 use Rattle.std.specs.Prelude.{ℕ, suc, ◌+◌, ◌/◌, Bool, true, false, cond, List, [], ◌∷◌, length, Ok, Err, Result, ◌==◌, nat_le}
 use Rattle.std.proofs.Math.Option.{Option, none, some}
 use Rattle.tables.specs.declared.fault.MapFault.{MapFault}

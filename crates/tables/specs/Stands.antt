@@ -1,13 +1,13 @@
 -- What it is for the tables of a map to hold some readings, and what a call promises.
---   State, state                     what a map is made of
---   map_tree, root_of, in_tree          the tree of a map with the places of its nodes
---   among, unused, Chain             the places that are free
---   LiesTallied, Lies                a tree that lies in both tables
---   Stands                           the map holds the readings of a list
---   Serves, Keeps                    what a call promises after some calls, and after any calls
---   takes, freed_after, fresh_after    the next free place, and what is free after it is taken
---   four_taken, freed_last, fresh_last  the same for four places
---   grown_tables, started             both tables after a reading is entered
+--   State, state                         what a map is made of
+--   map_tree, root_of, in_tree           the tree of a map with the places of its nodes
+--   among, unused, Chain                 the places that are free
+--   LiesTallied, Lies                    a tree that lies in both tables
+--   Stands                               the map holds the readings of a list
+--   Serves, Keeps                        what a call promises after some calls, and after any calls
+--   takes, freed_after, fresh_after      the next free place, and what is free after it is taken
+--   four_taken, freed_last, fresh_last   the same for four places
+--   grown_tables, started                both tables after a reading is entered
 use Rattle.std.specs.Prelude.{◌≡◌, ℕ, ◌+◌, ◌<◌, ◌≤◌, min, Bool, true, false, cond, List, [], ◌∷◌, length, Ok, Err, ◌==◌, nat_le, slice_index_or, slice_set}
 use Rattle.std.proofs.Math.Option.{Option, none, some}
 use Rattle.records.specs.declared.record.Record.{Record}

@@ -1,6 +1,6 @@
 -- What the question for the tally of a shape promises.
---   Tallies   what the answer is after some calls
---   Answers   the same after any calls
+--   Tallies       what the answer is after some calls
+--   Answers       the same after any calls
 --   SameAnswers   two maps with the same live readings answer the same
 --   DiscEffort    how many nodes a disc expands at most
 use Rattle.std.specs.Prelude.{◌≡◌, ℕ, ◌*◌, ◌≤◌, List}

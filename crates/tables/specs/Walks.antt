@@ -1,10 +1,10 @@
 -- The walk over the tables that tallies a shape.
---   numbered                          the tests of a shape for any two numbers as the depth and the code of a box
---   Seen                              how a box lies to a shape
---   moved, took, opened               where a walk is after a node
---   crossed, arrived                  what follows where the walk has come down to a node
---   returned, turned                  what follows where it is done with a node, and one turn
---   starts, ran                       the turns of a walk from its start
+--   numbered              the tests of a shape for any two numbers as the depth and the code of a box
+--   Seen                  how a box lies to a shape
+--   moved, took, opened   where a walk is after a node
+--   crossed, arrived      what follows where the walk has come down to a node
+--   returned, turned      what follows where it is done with a node, and one turn
+--   starts, ran           the turns of a walk from its start
 use Rattle.std.specs.Prelude.{◌≡◌, ℕ, zero, suc, ◌+◌, min, Bool, true, false, cond, List, ◌==◌, slice_index_or}
 use Rattle.records.specs.declared.record.Record.{Record}
 use Rattle.tables.specs.declared.walk.Sight.{Sight}

@@ -1,6 +1,6 @@
 -- The times that a span covers, and how spans are joined.
 --   earliest, latest, times_in   the first and the last time of a span
---   lesser, greater             of two times that may be absent
+--   lesser, greater              of two times that may be absent
 --   span_joined                  two spans joined
 use Rattle.std.specs.Prelude.{ℕ, min, max, Some, None, Option}
 use Rattle.tally.specs.declared.span.Span.{Span}

@@ -1,8 +1,8 @@
 -- How sums are made and joined.
---   OnlySum               a sum that is settled by its number
---   remainder_fits        a remainder fits
---   zero_sum, sum_of      the sum of nothing, and of a number
---   sum_joined            two sums joined
+--   OnlySum            a sum that is settled by its number
+--   remainder_fits     a remainder fits
+--   zero_sum, sum_of   the sum of nothing, and of a number
+--   sum_joined         two sums joined
 use Rattle.std.specs.Prelude.{◌≡◌, ℕ, ◌+◌, ◌%◌, ◌^◌, ◌<◌}
 use Rattle.std.proofs.Common.{arith, lit<}
 use Rattle.tally.specs.declared.sum.Sum.{Sum}
