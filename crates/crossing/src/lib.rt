@@ -4,25 +4,19 @@
 ghost use Rattle.crossing.specs.Laws.{MissesMeans, HeldMeans, CrossesMeans, DiscMisses, DiscHolds, DiscCrossings};
 
 /// What the three tests of a region mean, in places.
-pub fn tests_mean() -> u8
+pub fn tests_mean()
     ensures misses { MissesMeans }
     ensures held { HeldMeans }
     ensures crosses { CrossesMeans }
-{
-    0
-}
+{}
 
 /// A rectangle lies to a disc as its nearest and its farthest place do.
-pub fn disc_tests_are_exact() -> u8
+pub fn disc_tests_are_exact()
     ensures misses { DiscMisses }
     ensures held { DiscHolds }
-{
-    0
-}
+{}
 
 /// The boxes that cross a disc are at most its crossing sum.
-pub fn disc_crossings_are_bounded() -> u8
+pub fn disc_crossings_are_bounded()
     ensures bound { DiscCrossings }
-{
-    0
-}
+{}
