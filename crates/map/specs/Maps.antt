@@ -7,7 +7,7 @@ use Rattle.tables.specs.Stands.{State, state}
 
 -- What a map is made of, with what its two references point to.
 abbrev pub state_of : {K : Type 0} → Map K → State K
-state_of m = state m.records.now m.tallies.now m.places m.root m.live m.fresh m.freed
+state_of m = state m.records.now m.tallies.now m.places m.root m.live m.free
 
 -- The map still holds the two tables that were lent to it.
 abbrev pub Lends : {K : Type 0} → Map K → Map K → Type 0

@@ -1,11 +1,12 @@
 //! Entering a reading.
 ghost use Rattle.std.specs.Prelude.{◌≡◌, ◌+◌, ◌/◌, ◌&&◌, nat_eq, nat_le};
 ghost use Rattle.map.specs.Maps.{state_of, Lends};
+ghost use Rattle.records.specs.Free.{next as next_free, left_after, four_taken, four_left};
 ghost use Rattle.tables.specs.Calls.{enters};
 ghost use Rattle.tables.specs.Stands.{Keeps, started};
 
 use crate::{Map, store};
-use records::{BoxNumbers, NONE, READING, Record};
+use records::{FourPlaces, FreePlaces, NONE, READING, Record};
 use tables::MapFault;
 use tally::Tally;
 
@@ -24,26 +25,32 @@ impl<'a, K: Tally> Map<'a, K> {
         (self.places as u32 + 3) / 4 <= self.live as u32
     }
 
+    /// The next free place, and the free places once it is taken.
+    fn one_free(&self) -> (u16, FreePlaces)
+        ensures value { result ≡ (next_free self.now.free, left_after self.now.records.now self.now.free) }
+    {
+        let place = nodes::next_free(self.free);
+        (place, nodes::take(self.records, self.free))
+    }
+
+    /// Four free places, and the free places once they are taken.
+    fn four_free(&self) -> (FourPlaces, FreePlaces)
+        ensures value { result ≡ (four_taken self.now.records.now self.now.free, four_left self.now.records.now self.now.free) }
+    {
+        nodes::take_four(self.records, self.free)
+    }
+
     /// Makes the first reading the tree, at one free place.
     fn start(&mut self, code: u32, priority: u32, extra: K)
         ensures run { state_of self.new ≡ started (state_of self.old) code priority extra }
         ensures lends { Lends self.old self.new }
     {
-        let i = self.take();
-        let record = Record {
-            kind: READING,
-            outer: BoxNumbers { depth: 0, code: 0 },
-            inner: BoxNumbers { depth: 33, code: 0 },
-            first: NONE,
-            second: NONE,
-            parent: NONE,
-            priority,
-            code,
-        };
-        records::write(self.records, i, record);
+        let (i, left) = self.one_free();
+        nodes::plant_first::<K>(self.records, i, code, priority);
         store(self.tallies, i, extra);
         self.root = i;
         self.live = 1;
+        self.free = left;
     }
 
     /// Puts the reading with a code on the roll, with a priority and a tally.
@@ -66,8 +73,9 @@ impl<'a, K: Tally> Map<'a, K> {
         if self.is_full() {
             return Err(MapFault::Full);
         }
-        let n = self.take_four();
+        let (n, left) = self.four_free();
         self.grow(leaf, code, priority, extra, n);
+        self.free = left;
         self.live += 1;
         Ok(self.live)
     }

@@ -7,7 +7,7 @@ ghost use Rattle.records.specs.Writes.{at};
 ghost use Rattle.records.specs.Promises.{Descends};
 ghost use Rattle.tables.specs.Calls.{repeats};
 ghost use Rattle.tables.specs.Totals.{renewed, climbed, mended, tables, raised};
-ghost use Rattle.tables.specs.Stands.{Stands, Keeps, takes, freed_after, fresh_after, four_taken, freed_last, fresh_last, grown_tables};
+ghost use Rattle.tables.specs.Stands.{Stands, Keeps, grown_tables};
 
 mod calls;
 mod comparison;
@@ -17,7 +17,7 @@ mod strike;
 mod tallies;
 
 pub use comparison::{Compared, compare};
-use records::{FourPlaces, NONE, READING, Record};
+use records::{FourPlaces, FreePlaces, NONE, READING, Record};
 pub use tables::MapFault;
 pub use tallies::Tallied;
 use tally::Tally;
@@ -66,8 +66,7 @@ pub struct Map<'a, K> {
     pub(crate) places: u16,
     pub(crate) root: u16,
     pub(crate) live: u16,
-    pub(crate) fresh: u16,
-    pub(crate) freed: u16,
+    pub(crate) free: FreePlaces,
 }
 
 impl<'a, K: Tally> Map<'a, K> {
@@ -84,8 +83,7 @@ impl<'a, K: Tally> Map<'a, K> {
             places,
             root: NONE,
             live: 0,
-            fresh: 0,
-            freed: NONE,
+            free: nodes::none_used(),
         }
     }
 
@@ -114,7 +112,7 @@ impl<'a, K: Tally> Map<'a, K> {
     fn climb(&mut self, from: u16)
         ensures run { self.new.tallies.now ≡ climbed K.Tally.joined K.Tally.neutral self.old.records.now self.old.places from self.old.tallies.now }
         ensures same { self.new.records.now ≡ self.old.records.now }
-        ensures rest { (self.new.places ≡ self.old.places) × ((self.new.root ≡ self.old.root) × ((self.new.live ≡ self.old.live) × ((self.new.fresh ≡ self.old.fresh) × (self.new.freed ≡ self.old.freed)))) }
+        ensures rest { (self.new.places ≡ self.old.places) × ((self.new.root ≡ self.old.root) × ((self.new.live ≡ self.old.live) × (self.new.free ≡ self.old.free))) }
         ensures lends { Lends self.old self.new }
     {
         let mut i = from;
@@ -134,7 +132,7 @@ impl<'a, K: Tally> Map<'a, K> {
     fn mend(&mut self, x: u16)
         ensures run { self.new.tallies.now ≡ mended K.Tally.joined K.Tally.neutral self.old.records.now x self.old.tallies.now }
         ensures same { self.new.records.now ≡ self.old.records.now }
-        ensures rest { (self.new.places ≡ self.old.places) × ((self.new.root ≡ self.old.root) × ((self.new.live ≡ self.old.live) × ((self.new.fresh ≡ self.old.fresh) × (self.new.freed ≡ self.old.freed)))) }
+        ensures rest { (self.new.places ≡ self.old.places) × ((self.new.root ≡ self.old.root) × ((self.new.live ≡ self.old.live) × (self.new.free ≡ self.old.free))) }
         ensures lends { Lends self.old self.new }
     {
         if x == NONE {
@@ -149,7 +147,7 @@ impl<'a, K: Tally> Map<'a, K> {
     /// Settles each pair from the one at `from` up to the root. Answers the root.
     fn rise(&mut self, from: u16) -> u16
         ensures run { tables self.new.records.now self.new.tallies.now result ≡ raised K.Tally.joined K.Tally.neutral self.old.places self.old.records.now self.old.tallies.now from }
-        ensures rest { (self.new.places ≡ self.old.places) × ((self.new.root ≡ self.old.root) × ((self.new.live ≡ self.old.live) × ((self.new.fresh ≡ self.old.fresh) × (self.new.freed ≡ self.old.freed)))) }
+        ensures rest { (self.new.places ≡ self.old.places) × ((self.new.root ≡ self.old.root) × ((self.new.live ≡ self.old.live) × (self.new.free ≡ self.old.free))) }
         ensures lends { Lends self.old self.new }
     {
         let mut s = from;
@@ -168,51 +166,10 @@ impl<'a, K: Tally> Map<'a, K> {
         s
     }
 
-    /// Takes a free place: the one freed last, or the first that was not used yet.
-    pub(crate) fn take(&mut self) -> u16
-        ensures place { result ≡ takes self.old.freed self.old.fresh }
-        ensures freed { self.new.freed ≡ freed_after self.old.records.now self.old.freed }
-        ensures fresh { self.new.fresh ≡ fresh_after self.old.freed self.old.fresh }
-        ensures same { (self.new.records.now ≡ self.old.records.now) × (self.new.tallies.now ≡ self.old.tallies.now) }
-        ensures rest { (self.new.places ≡ self.old.places) × ((self.new.root ≡ self.old.root) × (self.new.live ≡ self.old.live)) }
-        ensures lends { Lends self.old self.new }
-    {
-        let i = self.freed;
-        if i != NONE {
-            let r = self.node(i);
-            self.freed = r.first;
-            return i;
-        }
-        let i = self.fresh;
-        self.fresh = if i < NONE { i + 1 } else { NONE };
-        i
-    }
-
-    /// Takes four free places.
-    pub(crate) fn take_four(&mut self) -> FourPlaces
-        ensures places { result ≡ four_taken self.old.records.now self.old.freed self.old.fresh }
-        ensures freed { self.new.freed ≡ freed_last self.old.records.now self.old.freed }
-        ensures fresh { self.new.fresh ≡ fresh_last self.old.records.now self.old.freed self.old.fresh }
-        ensures same { (self.new.records.now ≡ self.old.records.now) × (self.new.tallies.now ≡ self.old.tallies.now) }
-        ensures rest { (self.new.places ≡ self.old.places) × ((self.new.root ≡ self.old.root) × (self.new.live ≡ self.old.live)) }
-        ensures lends { Lends self.old self.new }
-    {
-        let shrink = self.take();
-        let split = self.take();
-        let reading = self.take();
-        let outer = self.take();
-        FourPlaces {
-            shrink,
-            split,
-            reading,
-            outer,
-        }
-    }
-
     /// Makes the leaf at `i` a pair over what it held and a new reading, and settles each pair up to the root.
     pub(crate) fn grow(&mut self, i: u16, code: u32, priority: u32, extra: K, n: FourPlaces)
         ensures run { tables self.new.records.now self.new.tallies.now self.new.root ≡ grown_tables K.Tally.joined K.Tally.neutral self.old.places self.old.records.now self.old.tallies.now i code priority extra n }
-        ensures rest { (self.new.places ≡ self.old.places) × ((self.new.live ≡ self.old.live) × ((self.new.fresh ≡ self.old.fresh) × (self.new.freed ≡ self.old.freed))) }
+        ensures rest { (self.new.places ≡ self.old.places) × ((self.new.live ≡ self.old.live) × (self.new.free ≡ self.old.free)) }
         ensures lends { Lends self.old self.new }
     {
         nodes::plant::<K>(self.records, i, code, priority, n);

@@ -3,10 +3,10 @@ ghost use Rattle.std.specs.Prelude.{◌≡◌};
 ghost use Rattle.map.specs.Maps.{state_of, Lends};
 ghost use Rattle.tables.specs.Calls.{strikes};
 ghost use Rattle.tables.specs.Stands.{Keeps};
-ghost use Rattle.tables.specs.Removal.{given_state, four_given_state, root_above, struck_state, emptied_state};
+ghost use Rattle.tables.specs.Removal.{root_above, struck_state, emptied_state};
 
 use crate::Map;
-use records::{FourPlaces, NONE, READING, Record, Sinking};
+use records::{FourPlaces, NONE, READING, Sinking};
 use tables::MapFault;
 use tally::Tally;
 
@@ -28,28 +28,6 @@ impl<'a, K: Tally> Map<'a, K> {
         i
     }
 
-    /// Gives a place back. It is the next one to be taken.
-    fn give(&mut self, i: u16)
-        ensures run { state_of self.new ≡ given_state (state_of self.old) i }
-        ensures lends { Lends self.old self.new }
-    {
-        let first = self.freed;
-        let r = self.node(i);
-        records::write(self.records, i, Record { first, ..r });
-        self.freed = i;
-    }
-
-    /// Gives four places back.
-    fn give_four(&mut self, n: FourPlaces)
-        ensures run { state_of self.new ≡ four_given_state (state_of self.old) n }
-        ensures lends { Lends self.old self.new }
-    {
-        self.give(n.shrink);
-        self.give(n.split);
-        self.give(n.reading);
-        self.give(n.outer);
-    }
-
     /// Renews the tallies above the leaf at `i`, which took the place of a pair, and gives the places of that pair back.
     fn finish_strike(&mut self, i: u16, n: FourPlaces)
         ensures run { state_of self.new ≡ struck_state K.Tally.joined K.Tally.neutral (state_of self.old) i n }
@@ -60,7 +38,9 @@ impl<'a, K: Tally> Map<'a, K> {
         self.climb(r.parent);
         self.root = top;
         self.live = self.live.saturating_sub(1);
-        self.give_four(n);
+        let before = self.free;
+        let after = nodes::give_four(self.records, before, n);
+        self.free = after;
     }
 
     /// Takes the only reading, at `i`, out of the map.
@@ -70,7 +50,8 @@ impl<'a, K: Tally> Map<'a, K> {
     {
         self.root = NONE;
         self.live = self.live.saturating_sub(1);
-        self.give(i);
+        let before = self.free;
+        self.free = nodes::give(self.records, before, i);
     }
 
     /// Strikes the reading with a code.

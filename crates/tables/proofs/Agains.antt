@@ -3,6 +3,7 @@ use Rattle.std.proofs.Common.{◌≡◌, ℕ, ◌+◌, ◌≤◌, min, true, fal
 use mathlib.Core.Option.{none, some}
 use Rattle.std.proofs.lemmas.Bool.{eq-eqb, ne_eqb}
 use Rattle.records.specs.declared.record.Record.{Record}
+use Rattle.records.specs.declared.places.FreePlaces.{FreePlaces}
 use Rattle.tables.specs.declared.fault.MapFault.TheVariants.{Absent}
 use Rattle.place.specs.Boxes.{Box}
 use Rattle.quadtreap.specs.Tree.{Reading, Content, reading, box, tree_of, nodes}
@@ -64,7 +65,7 @@ module _ {K : Type 0} (join : K → K → K) (e : K) (k : ℕ) (v : K) where
     ts2 = climbed join e s.records s.places (above way) ts1
 
     abbrev s' : State K
-    s' = state s.records ts2 s.places s.root s.live s.fresh s.freed
+    s' = state s.records ts2 s.places s.root s.live s.free
 
     lain : LiesTallied join e s.records ts (put_in_all path (placed_leaf i C (reading r)))
     lain = subst (LiesTallied join e s.records ts) (sym whole) (held_lain k join e s rs st far)
@@ -144,11 +145,10 @@ module _ {K : Type 0} (join : K → K → K) (e : K) (k : ℕ) (v : K) where
       lies = record { kept = kept'; right = right'; totals = subst (Totals join e ts2) (sym new_nodes_of) climbed_up.totals };
       top = st.top ∙ ap root_of (held_is k join e s rs st far) ∙ ap place_of old_nodes_of ∙ place_of_plug way old new refl ∙ sym (ap place_of new_nodes_of);
       spare = st.spare;
-      chain = st.chain;
+      free = st.free;
       each = λ j h. let p = same_places j in let q = st.each j h in omega arith;
       past = λ j h. let p = same_places j in let q = st.past j h in omega arith;
       used = let u = used_carry (more join k v) rs in let w = st.used in omega arith;
-      fits = st.fits;
     }
 
     pub past_after : (j : ℕ) (d : K) → s.places ≤ j → get_or ts2 j d ≡ get_or ts j d
@@ -178,7 +178,7 @@ module _ {K : Type 0} (join : K → K → K) (e : K) (k : ℕ) (v : K) where
 
     joined_by : (c : Content K) (path : List (PairFrame K)) (C : Box) (q : Record) → put_in_all path (placed_leaf i C c) ≡ held k join e s rs st far → q ≡ record_of (above (node_frames path)) (leaf_at i C c)
         → of_code k c ≡ lookup k rs → q.kind ≡ 0 → q.code ≡ k → (m : ℕ) → m ≡ s.live
-        → Serves join e s (state s.records (climbed join e s.records s.places q.parent (set s.tallies i (join (get_or s.tallies i e) v))) s.places s.root s.live s.fresh s.freed) (repeats k v) cs (Ok m)
+        → Serves join e s (state s.records (climbed join e s.records s.places q.parent (set s.tallies i (join (get_or s.tallies i e) v))) s.places s.root s.live s.free) (repeats k v) cs (Ok m)
     joined_by (box I) path C q whole is tells kind code m live = let z : ◌≡◌ {A = ℕ} 1 0 = sym (ap (λ (x : Record). x.kind) is) ∙ kind in absurd (omega arith)
     joined_by (reading r) path C q whole is tells kind code m live =
         let same : k ≡ r.code = sym code ∙ ap (λ (x : Record). x.code) is in
@@ -186,9 +186,9 @@ module _ {K : Type 0} (join : K → K → K) (e : K) (k : ℕ) (v : K) where
         let there : present k rs ≡ true = ap is_some here in
         let up : q.parent ≡ above (node_frames path) = ap (λ (x : Record). x.parent) is in
         let ts1 : List K = set s.tallies i (join (get_or s.tallies i e) v) in
-        subst (λ (p : ℕ). Serves join e s (state s.records (climbed join e s.records s.places p ts1) s.places s.root s.live s.fresh s.freed) (repeats k v) cs (Ok m)) (sym up)
+        subst (λ (p : ℕ). Serves join e s (state s.records (climbed join e s.records s.places p ts1) s.places s.root s.live s.free) (repeats k v) cs (Ok m)) (sym up)
         record {
-          stands = subst (λ b. Stands join e (state s.records (climbed join e s.records s.places (above (node_frames path)) ts1) s.places s.root s.live s.fresh s.freed) (cond b (carry_all (more join k v) rs) rs)) (sym there)
+          stands = subst (λ b. Stands join e (state s.records (climbed join e s.records s.places (above (node_frames path)) ts1) s.places s.root s.live s.free) (cond b (carry_all (more join k v) rs) rs)) (sym there)
               (stands_after s rs st far i path C r whole same);
           answer = ap Ok (live ∙ st.count) ∙ ap (λ b. cond b (Ok (length rs)) (Err Absent)) (sym there);
           places = refl;
@@ -199,14 +199,14 @@ module _ {K : Type 0} (join : K → K → K) (e : K) (k : ℕ) (v : K) where
 
   pub keeps_joined : (s : State K) (i : ℕ) (q : Record) → s.root ≢ 65535 → Descends K s.records s.root k s.places i → q ≡ at s.records i → q.kind ≡ 0 → q.code ≡ k
       → (m : ℕ) → m ≡ s.live → (s' : State K)
-      → s' ≡ state s.records (climbed join e s.records s.places q.parent (set s.tallies i (join (get_or s.tallies i e) v))) s.places s.root s.live s.fresh s.freed
+      → s' ≡ state s.records (climbed join e s.records s.places q.parent (set s.tallies i (join (get_or s.tallies i e) v))) s.places s.root s.live s.free
       → Keeps join e s s' (repeats k v) (Ok m)
   keeps_joined s i q far down is kind code m live s' new cs st =
       let f = found k join e s _ st far i down in
       subst (λ (u : State K). Serves join e s u (repeats k v) cs (Ok m)) (sym new)
       (joined_by s cs st far i f.content f.path f.box q f.whole (is ∙ f.lies) f.tells kind code m live)
 
-pub same_state : {K : Type 0} (r r' : List Record) (t t' : List K) (a a' b b' c c' d d' f f' : ℕ) → r ≡ r' → t ≡ t' → a ≡ a' → b ≡ b' → c ≡ c' → d ≡ d' → f ≡ f' → state r t a b c d f ≡ state r' t' a' b' c' d' f'
-same_state r r' t t' a a' b b' c c' d d' f f' er et ea eb ec ed ef =
-    ap (λ x. state x t a b c d f) er ∙ ap (λ x. state r' x a b c d f) et ∙ ap (λ x. state r' t' x b c d f) ea ∙ ap (λ x. state r' t' a' x c d f) eb
-    ∙ ap (λ x. state r' t' a' b' x d f) ec ∙ ap (λ x. state r' t' a' b' c' x f) ed ∙ ap (λ x. state r' t' a' b' c' d' x) ef
+pub same_state : {K : Type 0} (r r' : List Record) (t t' : List K) (a a' b b' c c' : ℕ) (f f' : FreePlaces) → r ≡ r' → t ≡ t' → a ≡ a' → b ≡ b' → c ≡ c' → f ≡ f' → state r t a b c f ≡ state r' t' a' b' c' f'
+same_state r r' t t' a a' b b' c c' f f' er et ea eb ec ef =
+    ap (λ x. state x t a b c f) er ∙ ap (λ x. state r' x a b c f) et ∙ ap (λ x. state r' t' x b c f) ea ∙ ap (λ x. state r' t' a' x c f) eb
+    ∙ ap (λ x. state r' t' a' b' x f) ec ∙ ap (λ x. state r' t' a' b' c' x) ef

@@ -1,5 +1,5 @@
 -- A tally joined to one reading: the list, the tree, and the tree with its places.
-use Rattle.std.proofs.Common.{◌≡◌, ℕ, suc, ◌+◌, ◌≤◌, Bool, true, cond, ◌≢◌, List, [], ◌∷◌, length, sym, refl, ap, ◌∙◌, subst, inl, inr, arith}
+use Rattle.std.proofs.Common.{◌≡◌, ℕ, suc, ◌+◌, ◌≤◌, Bool, true, cond, List, [], ◌∷◌, length, sym, refl, ap, ◌∙◌, subst, inl, inr, arith}
 use mathlib.Core.Option.{Option, none, some}
 use Rattle.std.specs.List.{AllByRecursion}
 use Rattle.std.proofs.lemmas.Bool.{ne_eqb, cases_eq}
@@ -14,12 +14,8 @@ use Rattle.records.specs.PlacedPairs.{PlacedPairs, placed_pair, tree_in, rank_at
 use Rattle.tables.specs.Calls.{more}
 use Rattle.quadtreap.proofs.CellLaws.{total_insert}
 use Rattle.quadtreap.proofs.CarryLaws.{carried}
-use Rattle.records.proofs.FrameLaws.{one_same, differ}
+use Rattle.records.proofs.FrameLaws.{one_same, one_not, differ}
 use Rattle.records.proofs.PairLaws.{node_rank_at, ranks_parts}
-
-pub one_not : (i j : ℕ) → i ≢ j → one i j ≡ 0
-unfolding one
-one_not i j h = ap (λ b. cond b 1 0) (ne_eqb i j h)
 
 before_carry : {K : Type 0} (f : Reading K → K) (q r : Reading K) → before q r ≡ true → before (carry f q) (carry f r) ≡ true
 unfolding before

@@ -5,6 +5,7 @@ use Rattle.std.proofs.lemmas.Bool.{eq-eqb, eqb-true, eqb-false, leb-false, and_p
 use Rattle.records.specs.declared.record.Record.{Record}
 use Rattle.tables.specs.declared.fault.MapFault.TheVariants.{Taken, Full}
 use Rattle.records.specs.declared.places.FourPlaces.{FourPlaces}
+use Rattle.records.specs.declared.places.FreePlaces.{FreePlaces}
 use Rattle.place.specs.Boxes.{Box}
 use Rattle.quadtreap.specs.Tree.{Reading, Content, reading, box}
 use Rattle.quadtreap.specs.Rank.{put}
@@ -13,7 +14,8 @@ use Rattle.tables.specs.Calls.{Reply, Call, enters, is_some, present, full, read
 use Rattle.records.specs.PlacedNodes.{leaf_at, record_of}
 use Rattle.records.specs.Writes.{at}
 use Rattle.records.specs.Promises.{Descends}
-use Rattle.tables.specs.Stands.{State, state, Stands, Serves, Keeps, takes, started, four_taken, freed_last, fresh_last, grown_tables}
+use Rattle.records.specs.Free.{next as next_free, four_taken, four_left}
+use Rattle.tables.specs.Stands.{State, state, Stands, Serves, Keeps, started, grown_tables}
 use Rattle.tables.specs.Totals.{Tables, tables}
 use Rattle.tables.proofs.Finds.{none_found, found}
 use Rattle.tables.proofs.Agains.{other_content, same_state}
@@ -24,24 +26,18 @@ module _ {K : Type 0} (join : K → K → K) (e : K) where
   -- the state after a reading has grown at the leaf at i
   abbrev pub grown : State K → ℕ → ℕ → ℕ → K → State K
   grown s i k priority v =
-      let n : FourPlaces = four_taken s.records s.freed s.fresh in
+      let n : FourPlaces = four_taken s.records s.free in
       let t : Tables K = grown_tables join e s.places s.records s.tallies i k priority v n in
-      state t.records t.tallies s.places t.top (s.live + 1) (fresh_last s.records s.freed s.fresh) (freed_last s.records s.freed)
+      state t.records t.tallies s.places t.top (s.live + 1) (four_left s.records s.free)
 
   -- the state in parts, each as the calls on the way answered it
-  pub grown_by : (s : State K) (i k priority : ℕ) (v : K) (recs recs₀ : List Record) (ts ts₀ : List K) (top N N₀ live fresh freed : ℕ) (n : FourPlaces)
-      → tables recs ts top ≡ grown_tables join e N₀ recs₀ ts₀ i k priority v n
-      → N₀ ≡ s.places → recs₀ ≡ s.records → ts₀ ≡ s.tallies → n ≡ four_taken s.records s.freed s.fresh
-      → N ≡ s.places → live ≡ s.live + 1 → fresh ≡ fresh_last s.records s.freed s.fresh → freed ≡ freed_last s.records s.freed
-      → state recs ts N top live fresh freed ≡ grown s i k priority v
-  grown_by s i k priority v recs recs₀ ts ts₀ top N N₀ live fresh freed n run eN eR eT en eN' el ef eg =
-      let all : tables recs ts top ≡ grown_tables join e s.places s.records s.tallies i k priority v (four_taken s.records s.freed s.fresh) =
-      run
-      ∙ ap (λ (x : ℕ). grown_tables join e x recs₀ ts₀ i k priority v n) eN
-      ∙ ap (λ (x : List Record). grown_tables join e s.places x ts₀ i k priority v n) eR
-      ∙ ap (λ (x : List K). grown_tables join e s.places s.records x i k priority v n) eT
-      ∙ ap (λ (x : FourPlaces). grown_tables join e s.places s.records s.tallies i k priority v x) en in
-      same_state _ _ _ _ _ _ _ _ _ _ _ _ _ _ (ap (λ (t : Tables K). t.records) all) (ap (λ (t : Tables K). t.tallies) all) eN' (ap (λ (t : Tables K). t.top) all) el ef eg
+  pub grown_by : (s : State K) (i k priority : ℕ) (v : K) (recs : List Record) (ts : List K) (N top live : ℕ) (n : FourPlaces) (free : FreePlaces)
+      → tables recs ts top ≡ grown_tables join e s.places s.records s.tallies i k priority v n → n ≡ four_taken s.records s.free
+      → N ≡ s.places → live ≡ s.live + 1 → free ≡ four_left s.records s.free → state recs ts N top live free ≡ grown s i k priority v
+  grown_by s i k priority v recs ts N top live n free run four eN el ef =
+      let all : tables recs ts top ≡ grown_tables join e s.places s.records s.tallies i k priority v (four_taken s.records s.free) =
+      run ∙ ap (λ (x : FourPlaces). grown_tables join e s.places s.records s.tallies i k priority v x) four in
+      same_state _ _ _ _ _ _ _ _ _ _ _ _ (ap (λ (t : Tables K). t.records) all) (ap (λ (t : Tables K). t.tallies) all) eN (ap (λ (t : Tables K). t.top) all) el ef
 
   -- a call that is refused
   pub refused : (s : State K) (cs : List (Call K)) (c : Call K) (r : Reply) → Stands join e s (roll join s.places cs)
@@ -95,19 +91,19 @@ module _ {K : Type 0} (join : K → K → K) (e : K) where
     pub keeps_first : (s : State K) → s.root ≡ 65535 → leb ((s.places + 3) / 4) s.live ≡ false → k < 2 ^ 32 → Keeps join e s (started s k priority v) call (Ok 1)
     keeps_first s is room small cs st =
         let rs : List (Reading K) = roll join s.places cs in
-        let some-room : 0 < s.places = omega (arith, leb-false ((s.places + 3) / 4) s.live room) in
+        let some_room : 0 < s.places = omega (arith, leb-false ((s.places + 3) / 4) s.live room) in
         let gone : present k rs ≡ false = ap is_some (none_found k join e s _ st is) in
         let open' : full s.places rs ≡ false = full_is s rs false st room in
-        let tree_in' : rs ≡ [] = no_readings join e k priority v s rs st is small some-room in
-        let below = first_below join e k priority v s rs st is small some-room in
+        let empty : rs ≡ [] = no_readings join e k priority v s rs st is small some_room in
+        let below = first_below join e k priority v s rs st is small some_room in
         record {
           stands =
-              subst (Stands join e (started s k priority v)) (ap (put (reads k priority v)) (sym tree_in') ∙ sym (accepted_roll s.places rs gone open'))
-              (stands_first join e k priority v s rs st is small some-room);
-          answer = ap (λ (l : List (Reading K)). Ok (suc (length l))) (sym tree_in') ∙ sym (accepted_reply s.places rs gone open');
+              subst (Stands join e (started s k priority v)) (ap (put (reads k priority v)) (sym empty) ∙ sym (accepted_roll s.places rs gone open'))
+              (stands_first join e k priority v s rs st is small some_room);
+          answer = ap (λ (l : List (Reading K)). Ok (suc (length l))) (sym empty) ∙ sym (accepted_reply s.places rs gone open');
           places = refl;
-          records_past = λ j d h. get_or-set_other s.records (takes s.freed s.fresh) j _ d (λ z. let q : ⊥ = omega arith in q);
-          tallies_past = λ j d h. get_or-set_other s.tallies (takes s.freed s.fresh) j _ d (λ z. let q : ⊥ = omega arith in q);
+          records_past = λ j d h. get_or-set_other s.records (next_free s.free) j _ d (λ z. let q : ⊥ = omega arith in q);
+          tallies_past = λ j d h. get_or-set_other s.tallies (next_free s.free) j _ d (λ z. let q : ⊥ = omega arith in q);
           unchanged = λ h. absurd (mathlib.Core.Bool.false≢true h);
         }
 

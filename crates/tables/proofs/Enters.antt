@@ -1,7 +1,6 @@
 -- A reading that comes to a map that has one: what the map holds then.
-use Rattle.std.proofs.Common.{◌≡◌, ℕ, suc, ◌+◌, ◌*◌, ◌/◌, ◌^◌, ◌<◌, ◌≤◌, min, true, false, cond, ◌≢◌, List, [], ◌∷◌, length, get_or, sym, refl, ap, ◌∙◌, subst, inl, inr, arith}
+use Rattle.std.proofs.Common.{◌≡◌, ℕ, suc, ◌+◌, ◌*◌, ◌/◌, ◌^◌, ◌<◌, ◌≤◌, min, true, false, cond, ◌≢◌, List, [], ◌∷◌, length, get_or, sym, refl, ap, ◌∙◌, subst, arith}
 use mathlib.Core.Option.{Option, none, some}
-use Rattle.std.proofs.lemmas.Bool.{cases_lt}
 use Rattle.records.specs.declared.record.Record.{Record}
 use Rattle.records.specs.declared.places.FourPlaces.{FourPlaces}
 use Rattle.quadtreap.specs.Tree.{Reading, tree_of, nodes, map_nodes}
@@ -14,7 +13,8 @@ use Rattle.records.specs.PlacedPairs.{PlacedPairs, placed_leaf, nodes_of, tree_i
 use Rattle.records.specs.Promises.{Descends}
 use Rattle.tables.specs.Calls.{reads}
 use Rattle.tables.specs.Totals.{Totals, mended, Tables, raised}
-use Rattle.tables.specs.Stands.{State, state, Stands, LiesTallied, in_tree, among, unused, takes, freed_after, fresh_after}
+use Rattle.records.specs.Free.{four_taken, four_left, TakesFour}
+use Rattle.tables.specs.Stands.{State, state, Stands, LiesTallied, in_tree}
 use Rattle.records.specs.Elsewhere.{Elsewhere}
 use Rattle.quadtreap.proofs.NodeLaws.{node_count}
 use Rattle.quadtreap.proofs.MapLaws.{enter_gives_tree}
@@ -26,13 +26,13 @@ use Rattle.records.proofs.PlantLaws.{place_plant}
 use Rattle.records.proofs.CountLaws.{places_plant}
 use Rattle.records.proofs.EnterLaws.{enters, enters_ranks}
 use Rattle.records.proofs.ElsewhereLaws.{onward as records-onward}
+use Rattle.records.proofs.FreeLaws.{takes_four}
 use Rattle.tables.proofs.Defaults.{any_default}
 use Rattle.tables.proofs.Climbs.{beside, way_short}
 use Rattle.tables.proofs.Finds.{held, held_is, held_tree, held_lain, held_top, held_few, content_at_lem}
-use Rattle.tables.proofs.Carries.{one_not}
+use Rattle.tables.proofs.PlaceLaws.{free_on, free_past, place_once}
 use Rattle.tables.proofs.Mends.{Beyond, onward}
 use Rattle.tables.proofs.Raises.{Raised, raises}
-use Rattle.tables.proofs.Pools.{Pool, Taken, take, chain_on}
 use Rattle.tables.proofs.Lows.{valid_more, parts_low}
 use Rattle.tables.proofs.Sows.{Sows, sows, sown}
 
@@ -93,85 +93,33 @@ module _ {K : Type 0} (join : K → K → K) (e : K) (k priority : ℕ) (v : K) 
   same_nodes : map_nodes (tree_of rs) ≡ nodes (tree_in t)
   same_nodes = ap map_nodes (held_tree k join e s rs st far)
 
-  left_over_lem : s.fresh + 4 ≤ N + length st.spare
+  left_over_lem : 4 + s.free.fresh ≤ N + length st.spare
   left_over_lem = let a = few in let b = same_nodes in let c = st.used in omega arith
 
-  pool : Pool N s.records s.freed s.fresh st.spare
-  pool = record { chain = st.chain; inside = λ j h. let q = st.past j h in omega arith; small = let q = st.size in omega arith; fits = st.fits }
-
-  abbrev f1 : ℕ
-  f1 = freed_after s.records s.freed
-
-  abbrev n1 : ℕ
-  n1 = fresh_after s.freed s.fresh
-
-  abbrev f2 : ℕ
-  f2 = freed_after s.records f1
-
-  abbrev n2 : ℕ
-  n2 = fresh_after f1 n1
-
-  abbrev f3 : ℕ
-  f3 = freed_after s.records f2
-
-  abbrev n3 : ℕ
-  n3 = fresh_after f2 n2
-
-  abbrev pub f4 : ℕ
-  f4 = freed_after s.records f3
-
-  abbrev pub n4 : ℕ
-  n4 = fresh_after f3 n3
-
   abbrev pub n : FourPlaces
-  n = record { shrink = takes s.freed s.fresh; split = takes f1 n1; reading = takes f2 n2; outer = takes f3 n3 }
+  n = four_taken s.records s.free
 
-  t1 : Taken N s.records s.freed s.fresh st.spare n.shrink f1 n1
-  t1 = take N s.records s.freed s.fresh st.spare pool (let a = left_over_lem in omega arith)
-
-  t2 : Taken N s.records f1 n1 t1.left n.split f2 n2
-  t2 = take N s.records f1 n1 t1.left t1.pool (let a = left_over_lem in let b = t1.count in omega arith)
-
-  t3 : Taken N s.records f2 n2 t2.left n.reading f3 n3
-  t3 = take N s.records f2 n2 t2.left t2.pool (let a = left_over_lem in let b = t1.count in let c = t2.count in omega arith)
-
-  t4 : Taken N s.records f3 n3 t3.left n.outer f4 n4
-  t4 = take N s.records f3 n3 t3.left t3.pool (let a = left_over_lem in let b = t1.count in let c = t2.count in let d = t3.count in omega arith)
-
-  abbrev left : List ℕ
-  left = t4.left
-
-  shared : (j : ℕ) → among j st.spare + unused s.fresh j ≡ four j n + (among j left + unused n4 j)
-  shared j = let a = t1.places j in let b = t2.places j in let c = t3.places j in let d = t4.places j in omega arith
+  taken : TakesFour N s.records s.free st.spare n (four_left s.records s.free)
+  taken = takes_four N s.records s.free st.spare st.free left_over_lem
 
   off : (j : ℕ) → N ≤ j → four j n ≡ 0
-  off j h =
-      let a = one_not j n.shrink (λ z. let q = t1.below in omega arith) in
-      let b = one_not j n.split (λ z. let q = t2.below in omega arith) in
-      let c = one_not j n.reading (λ z. let q = t3.below in omega arith) in
-      let d = one_not j n.outer (λ z. let q = t4.below in omega arith) in
-      omega arith
+  off j h = let a = free_past _ _ _ _ st.free j h in let b = free_past _ _ _ _ taken.free j h in let c = taken.places j in omega arith
 
   in_whole : (j : ℕ) → in_tree j st.placed ≡ one j i + occurs_around j f
   in_whole j = ap (in_tree j) (held_is k join e s rs st far) ∙ ap (occurs j) whole_nodes_of ∙ occurs_plug f (leaf_at i way.box way.content) j
 
   once : (j : ℕ) → four j n + (one j i + occurs_around j f) ≤ 1
-  once j =
-      let w = in_whole j in
-      elim (cases_lt j N) [
-        | inl l ↦ let a = st.each j l in let b = shared j in omega arith
-        | inr l ↦ let a = off j l in let b = st.past j l in omega arith
-      ]
+  once j = let w = in_whole j in let a = place_once join e s rs st j in let b = taken.places j in omega arith
 
   inside : (N ≤ length s.records) × (N ≤ length s.tallies)
   inside = let q = st.size in (omega arith, omega arith)
 
   free : Free s.records (placed_leaf i way.box way.content) n
   free = let q = inside.0 in record {
-    shrink = let z = t1.below in omega arith;
-    split = let z = t2.below in omega arith;
-    reading = let z = t3.below in omega arith;
-    outer = let z = t4.below in omega arith;
+    shrink = let z = taken.shrink in omega arith;
+    split = let z = taken.split in omega arith;
+    reading = let z = taken.reading in omega arith;
+    outer = let z = taken.outer in omega arith;
     apart = λ j. let z = once j in omega arith;
     low = λ j h. let z = st.size in off j (omega arith);
   }
@@ -194,7 +142,7 @@ module _ {K : Type 0} (join : K → K → K) (e : K) (k priority : ℕ) (v : K) 
   sow : Sows join e s.records recs1 s.tallies ts1 f i n new
   sow =
       let q = inside.1 in
-      sows join e s.records s.tallies f i way.box way.content p n focus free once low (let z = t1.below in omega arith) (let z = t2.below in omega arith) (let z = t3.below in omega arith) (let z = t4.below in omega arith) old_totals.0 old_totals.1
+      sows join e s.records s.tallies f i way.box way.content p n focus free once low (let z = taken.shrink in omega arith) (let z = taken.split in omega arith) (let z = taken.reading in omega arith) (let z = taken.outer in omega arith) old_totals.0 old_totals.1
 
   abbrev pub end : Tables K
   end = raised join e N recs1 ts1 n.shrink
@@ -235,7 +183,7 @@ module _ {K : Type 0} (join : K → K → K) (e : K) (k priority : ℕ) (v : K) 
   tallies_same = onward join e _ _ _ s.tallies ts1 end.tallies (λ j z. omega arith) (λ j z. let b = sowed_places j in omega arith) sow.beyond rise.beyond
 
   abbrev pub after : State K
-  after = state end.records end.tallies N end.top (s.live + 1) n4 f4
+  after = state end.records end.tallies N end.top (s.live + 1) (four_left s.records s.free)
 
   pub stands_entered : Stands join e after (put p rs)
   stands_entered =
@@ -250,23 +198,18 @@ module _ {K : Type 0} (join : K → K → K) (e : K) (k priority : ℕ) (v : K) 
         tree = tree;
         lies = record { kept = rise.kept; right = enters_ranks t p i n way lain.right; totals = rise.totals };
         top = rise.top;
-        spare = left;
-        chain = chain_on _ s.records end.records records_same f4 left (λ j z.
-            elim (cases_lt j N) [
-              | inl l ↦ let a = st.each j l in let b = shared j in let w = in_whole j in omega arith
-              | inr l ↦ let a = t4.pool.inside j l in absurd (omega arith)
-            ]) t4.pool.chain;
-        each = λ j l. let a = st.each j l in let b = shared j in let c = all_places j in omega arith;
-        past = λ j l. let a = st.past j l in let b = off j l in let c = all_places j in let d = t4.pool.inside j l in omega arith;
+        spare = taken.left;
+        free = free_on _ N s.records end.records records_same _ taken.left (λ j. let w = in_whole j in let a = place_once join e s rs st j in let b = taken.places j in omega arith) taken.free;
+        each = λ j l. let a = st.each j l in let b = taken.places j in let c = all_places j in omega arith;
+        past = λ j l. let a = st.past j l in let b = off j l in let c = all_places j in omega arith;
         used =
             let a = few in
             let b : nodes (tree_in entered) + 3 ≡ 4 * length (put p rs) = subst (Counted (length (put p rs))) (sym tree) (counted (put p rs)) in
             let c : map_nodes (tree_of (put p rs)) ≡ nodes (tree_in entered) = ap map_nodes (sym tree) in
             let d = st.used in
             let m = same_nodes in
-            let q1 = t1.count in let q2 = t2.count in let q3 = t3.count in let q4 = t4.count in
+            let q = taken.count in
             omega arith;
-        fits = t4.pool.fits;
       }
 
   -- nothing past the first places changes

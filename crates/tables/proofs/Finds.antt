@@ -86,7 +86,7 @@ module _ {K : Type 0} (k : ℕ) where
       held_few =
           let n : map_nodes (tree_of rs) ≡ nodes (tree_in held) = ap map_nodes held_tree in
           let u = st.used in
-          let f = st.fits in
+          let f = st.free.fits in
           omega arith
 
       pub found : (i : ℕ) → Descends K s.records s.root k s.places i → Found s rs held i

@@ -1,11 +1,11 @@
 pub mod Climbs
+pub mod PlaceLaws
 pub mod Opens
 pub mod Finds
 pub mod Carries
 pub mod Agains
 pub mod Mends
 pub mod Raises
-pub mod Pools
 pub mod Lows
 pub mod Sows
 pub mod Defaults
@@ -19,7 +19,7 @@ pub mod Turns
 pub mod Rolls
 pub mod Walked
 pub mod StrikeEntries
-pub mod GiveBack
+pub mod RootLaws
 pub mod StrikeStates
 pub mod StrikeCalls
 pub mod Comparisons

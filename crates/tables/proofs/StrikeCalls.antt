@@ -159,19 +159,19 @@ module _ {K : Type 0} (join : K → K → K) (e : K) (k : ℕ) where
             }
 
         after_is : (recs : List Record) (l : ℕ) (m : FourPlaces) → recs ≡ (struck_in s.places s.records s.root k).table → Done l m ≡ (struck_in s.places s.records s.root k).ends
-            → struck_state join e (state recs s.tallies s.places s.root s.live s.fresh s.freed) l m ≡ after join e k s rs st far here (several up)
+            → struck_state join e (state recs s.tallies s.places s.root s.live s.free) l m ≡ after join e k s rs st far here (several up)
         after_is recs l m table ends =
             let told' = ends ∙ ends_done in
             let at_table : recs ≡ end.table = table ∙ ap (λ (w : Sink). w.table) end_is in
-            ap (λ (w : List Record). struck_state join e (state w s.tallies s.places s.root s.live s.fresh s.freed) l m) at_table
-            ∙ ap (λ (w : ℕ). struck_state join e (state end.table s.tallies s.places s.root s.live s.fresh s.freed) w m) (ap leaf_in told')
-            ∙ ap (struck_state join e (state end.table s.tallies s.places s.root s.live s.fresh s.freed) (i join e k s rs st far here (several up))) (ap (places_in m) told')
+            ap (λ (w : List Record). struck_state join e (state w s.tallies s.places s.root s.live s.free) l m) at_table
+            ∙ ap (λ (w : ℕ). struck_state join e (state end.table s.tallies s.places s.root s.live s.free) w m) (ap leaf_in told')
+            ∙ ap (struck_state join e (state end.table s.tallies s.places s.root s.live s.free) (i join e k s rs st far here (several up))) (ap (places_in m) told')
 
     pub keeps_last : q.parent ≡ 65535 → (m : ℕ) → m ≡ s.live - 1 → (s' : State K) → s' ≡ emptied_state s i₀ → Keeps join e s s' (strikes k) (Ok m)
     keeps_last up m live s' new cs st = subst (λ (u : State K). Serves join e s u (strikes k) cs (Ok m)) (sym new) (serves_last cs st up m live)
 
     pub keeps_struck : q.parent ≢ 65535 → (recs : List Record) (l : ℕ) (p : FourPlaces) → recs ≡ (struck_in s.places s.records s.root k).table → Done l p ≡ (struck_in s.places s.records s.root k).ends
-        → (m : ℕ) → m ≡ s.live - 1 → (s' : State K) → s' ≡ struck_state join e (state recs s.tallies s.places s.root s.live s.fresh s.freed) l p → Keeps join e s s' (strikes k) (Ok m)
+        → (m : ℕ) → m ≡ s.live - 1 → (s' : State K) → s' ≡ struck_state join e (state recs s.tallies s.places s.root s.live s.free) l p → Keeps join e s s' (strikes k) (Ok m)
     keeps_struck up recs l p table ends m live s' new cs st =
         subst (λ (u : State K). Serves join e s u (strikes k) cs (Ok m)) (sym (new ∙ after_is cs st up recs l p table ends)) (serves_struck cs st up m live)
 

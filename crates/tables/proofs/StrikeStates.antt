@@ -17,8 +17,9 @@ use Rattle.records.specs.StrikeMoves.{moves_in}
 use Rattle.records.specs.Promises.{Frees}
 use Rattle.tables.specs.Calls.{is_some, present}
 use Rattle.tables.specs.Totals.{Totals, climbed}
-use Rattle.tables.specs.Stands.{State, state, Stands, LiesTallied, in_tree, among}
-use Rattle.tables.specs.Removal.{given, four_given, struck_state, emptied_state}
+use Rattle.records.specs.Free.{linked, given_back, four_linked, four_given, free_at, FreeIn, GivesOne, GivesFour}
+use Rattle.tables.specs.Stands.{State, state, Stands, LiesTallied, in_tree}
+use Rattle.tables.specs.Removal.{struck_state, emptied_state}
 use Rattle.records.specs.Elsewhere.{Elsewhere}
 use Rattle.quadtreap.proofs.NodeLaws.{node_count}
 use Rattle.quadtreap.proofs.PromoteLaws.{keep_no, keep_yes}
@@ -32,11 +33,12 @@ use Rattle.records.proofs.PairLaws.{lies_among, lies_whole, nodes_frames}
 use Rattle.records.proofs.MoveLaws.{moves_in_is}
 use Rattle.records.proofs.RankLaws.{final}
 use Rattle.records.proofs.StrikeLaws.{StrikeEnd, strikes, off_struck}
+use Rattle.records.proofs.FreeLaws.{gives, gives_four}
 use Rattle.tables.proofs.Climbs.{Climbs, climbs, way_short}
 use Rattle.tables.proofs.Finds.{held, held_is, held_tree, held_lain, held_few}
-use Rattle.tables.proofs.Pools.{chain_on}
+use Rattle.tables.proofs.PlaceLaws.{free_on, kept_on, place_once}
 use Rattle.tables.proofs.StrikeEntries.{Entries, under, entries_keep}
-use Rattle.tables.proofs.GiveBack.{given_elsewhere, given_chain, four_elsewhere, four_chain, with_four, kept_on, parent_is, tops}
+use Rattle.tables.proofs.RootLaws.{parent_is, tops}
 
 -- the readings with other codes
 module _ {K : Type 0} (k : ℕ) where
@@ -89,12 +91,9 @@ module _ {K : Type 0} (join : K → K → K) (e : K) (k : ℕ) (s : State K) (rs
   in_whole : (j : ℕ) → in_tree j st.placed ≡ occurs j (nodes_of t)
   in_whole j = ap (in_tree j) (held_is k join e s rs st far)
 
-  wide : N ≤ length s.records
-  wide = let q = st.size in omega arith
-
-  -- a node's place is below N, and no free one
-  apart : (j : ℕ) → occurs j (nodes_of t) + among j st.spare ≤ 1
-  apart j = let w = in_whole j in elim (cases_lt j N) [ inl l ↦ let a = st.each j l in omega arith | inr l ↦ let a = st.past j l in omega arith ]
+  -- a node's place is not free, and is below N
+  apart : (j : ℕ) → occurs j (nodes_of t) + free_at s.free st.spare j ≤ 1
+  apart j = let w = in_whole j in let a = place_once join e s rs st j in omega arith
 
   below : (j : ℕ) → 1 ≤ occurs j (nodes_of t) → j < N
   below j h = let w = in_whole j in elim (cases_lt j N) [ inl l ↦ l | inr l ↦ let a = st.past j l in absurd (omega arith) ]
@@ -118,12 +117,19 @@ module _ {K : Type 0} (join : K → K → K) (e : K) (k : ℕ) (s : State K) (rs
     pub last_live : s.live - 1 ≡ length (without k rs)
     last_live = let a = st.count in let b = nodes_before in let c = one_before in let d = nodes_last in omega arith
 
+    -- the place of the leaf is given back
+    back : GivesOne N s.records (linked s.records s.free i) s.free st.spare i (given_back s.free i)
+    back =
+        let a = lone i in
+        let b = one_same i in
+        let c = apart i in
+        gives N s.records s.free st.spare i st.free (below i (omega arith)) (omega arith)
+
     pub stands_emptied_state : Stands join e (emptied_state s i) (without k rs)
     stands_emptied_state =
         let ranks = stays_ranked.1 k rs st.valid st.ranked in
-        let here = one_same i in
         record {
-          size = st.size ∙ ap (λ m. min (min m (length s.tallies)) 65533) (sym (given_elsewhere s.records i s.freed).long);
+          size = st.size ∙ ap (λ m. min (min m (length s.tallies)) 65533) (sym back.same.long);
           valid = ranks.0;
           ranked = ranks.1;
           count = last_live;
@@ -132,22 +138,20 @@ module _ {K : Type 0} (join : K → K → K) (e : K) (k : ℕ) (s : State K) (rs
           lies = tt;
           top = refl;
           spare = i ∷ st.spare;
-          chain = given_chain s.records i s.freed st.spare (let a = lone i in let b = below i (omega arith) in let w = wide in omega arith) (let a = lone i in let b = apart i in omega arith) st.chain;
-          each = λ j h. let a = st.each j h in let b = in_whole j in let c = lone j in omega arith;
-          past = λ j h. let a = st.past j h in let b = in_whole j in let c = lone j in omega arith;
+          free = back.free;
+          each = λ j h. let a = st.each j h in let b = in_whole j in let c = lone j in let d = back.places j in omega arith;
+          past = λ j h. refl;
           used =
               let a : map_nodes (tree_of (without k rs)) ≡ 0 = ap map_nodes (sym gone) in
               let b : map_nodes (tree_of rs) ≡ nodes (tree_in t) = ap map_nodes tree_before in
               let c = one_before in
               let d = st.used in
               omega arith;
-          fits = st.fits;
         }
 
-    pub emptied_state_past : (j : ℕ) (d : Record) → N ≤ j → get_or (given s.records i s.freed) j d ≡ get_or s.records j d
+    pub emptied_state_past : (j : ℕ) (d : Record) → N ≤ j → get_or (linked s.records s.free i) j d ≡ get_or s.records j d
     emptied_state_past j d h =
-        let off = given_elsewhere s.records i s.freed in
-        reads_any s.records _ j d off.long (off.reads j (let a = lone j in let b = in_whole j in let c = st.past j h in omega arith))
+        reads_any s.records _ j d back.same.long (back.same.reads j (let a = lone j in let b = in_whole j in let c = st.past j h in omega arith))
 
   -- one of several
   module _ (live : present k rs ≡ true) (more : is_only (tree_in t) k ≡ false) where
@@ -225,19 +229,33 @@ module _ {K : Type 0} (join : K → K → K) (e : K) (k : ℕ) (s : State K) (rs
         (climbs join e recs1 N way leaf' s.tallies land.focus short land.kept.1 land.kept.0)
 
     abbrev recs2 : List Record
-    recs2 = four_given recs1 s.freed n
+    recs2 = four_linked recs1 s.free n
+
+    free1 : FreeIn N recs1 s.free st.spare
+    free1 = free_on _ N s.records recs1 off_tree s.free st.spare apart st.free
+
+    struck_below : (j : ℕ) → 1 ≤ four j n → j < N
+    struck_below j h = let a = frees.places j in below j (omega arith)
+
+    -- the four places are given back
+    four_back : GivesFour N recs1 recs2 s.free st.spare n (four_given s.free n)
+    four_back =
+        let a = one_same n.shrink in
+        let b = one_same n.split in
+        let c = one_same n.reading in
+        let d = one_same n.outer in
+        gives_four N recs1 s.free st.spare n free1
+        (struck_below n.shrink (omega arith)) (struck_below n.split (omega arith)) (struck_below n.reading (omega arith)) (struck_below n.outer (omega arith))
+        (λ j. let x = frees.places j in let y = apart j in omega arith)
 
     off_four : Elsewhere (λ j. four j n) recs1 recs2
-    off_four = four_elsewhere recs1 s.freed n
+    off_four = four_back.same
 
     kept1 : LiesIn recs1 (nodes_of u)
     kept1 = subst (λ w. LiesIn recs1 (nodes_of w)) land.found (lies_whole recs1 land.path (placed_leaf i land.box land.content) land.focus)
 
     kept2 : LiesIn recs2 (nodes_of u)
     kept2 = kept_on _ recs1 recs2 off_four (nodes_of u) (λ j z. let a = frees.places j in let b = lain.kept.once j in omega arith) kept1
-
-    chain1 : Rattle.tables.specs.Stands.Chain recs1 s.freed st.spare
-    chain1 = chain_on _ s.records recs1 off_tree s.freed st.spare (λ j z. let a = apart j in omega arith) st.chain
 
     pub struck_live : s.live - 1 ≡ length (without k rs)
     struck_live =
@@ -249,7 +267,7 @@ module _ {K : Type 0} (join : K → K → K) (e : K) (k : ℕ) (s : State K) (rs
         omega arith
 
     abbrev pub after : State K
-    after = struck_state join e (state recs1 s.tallies N s.root s.live s.fresh s.freed) i n
+    after = struck_state join e (state recs1 s.tallies N s.root s.live s.free) i n
 
     long_records : length recs2 ≡ length s.records
     long_records = off_four.long ∙ off_tree.long
@@ -266,11 +284,9 @@ module _ {K : Type 0} (join : K → K → K) (e : K) (k : ℕ) (s : State K) (rs
           tree = tree;
           lies = record { kept = kept2; right = final N t k lain.right (stays_paired.0 rs (tree_in t) tree_before).0 few; totals = subst (Totals join e ts2) (sym nodes_of_after) up.totals };
           top = tops recs1 N way leaf' land.focus short ∙ ap place_of (sym nodes_of_after);
-          spare = with_four recs1 s.freed n st.spare;
-          chain = four_chain recs1 s.freed n st.spare
-              (λ j z. let a = frees.places j in let b = below j (omega arith) in let w = wide in let l = off_tree.long in omega arith)
-              (λ j. let a = frees.places j in let b = apart j in omega arith) chain1;
-          each = λ j h. let a = st.each j h in let b = in_whole j in let c = frees.places j in omega arith;
+          spare = n.shrink ∷ n.split ∷ n.reading ∷ n.outer ∷ st.spare;
+          free = four_back.free;
+          each = λ j h. let a = st.each j h in let b = in_whole j in let c = frees.places j in let d = four_back.places j in omega arith;
           past = λ j h. let a = st.past j h in let b = in_whole j in let c = frees.places j in omega arith;
           used =
               let a : map_nodes (tree_of (without k rs)) ≡ nodes (tree_in u) = ap map_nodes (sym tree) in
@@ -278,7 +294,6 @@ module _ {K : Type 0} (join : K → K → K) (e : K) (k : ℕ) (s : State K) (rs
               let c = frees.nodes in
               let d = st.used in
               omega arith;
-          fits = st.fits;
         }
 
     pub records_past : (j : ℕ) (d : Record) → N ≤ j → get_or recs2 j d ≡ get_or s.records j d

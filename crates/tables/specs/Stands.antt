@@ -1,39 +1,36 @@
 -- What it is for the tables of a map to hold some readings, and what a call promises.
---   State, state                         what a map is made of
---   map_tree, root_of, in_tree           the tree of a map with the places of its nodes
---   among, unused, Chain                 the places that are free
---   LiesTallied, Lies                    a tree that lies in both tables
---   Stands                               the map holds the readings of a list
---   Serves, Keeps                        what a call promises after some calls, and after any calls
---   takes, freed_after, fresh_after      the next free place, and what is free after it is taken
---   four_taken, freed_last, fresh_last   the same for four places
---   grown_tables, started                both tables after a reading is entered
-use Rattle.std.specs.Prelude.{◌≡◌, ℕ, ◌+◌, ◌<◌, ◌≤◌, min, Bool, true, false, cond, List, [], ◌∷◌, length, Ok, Err, ◌==◌, nat_le, slice_index_or, slice_set}
+--   State, state                 what a map is made of
+--   map_tree, root_of, in_tree   the tree of a map with the places of its nodes
+--   LiesTallied, Lies            a tree that lies in both tables
+--   Stands                       the map holds the readings of a list
+--   Serves, Keeps                what a call promises after some calls, and after any calls
+--   grown_tables, started        what a map is after a reading is entered
+use Rattle.std.specs.Prelude.{◌≡◌, ℕ, ◌+◌, ◌<◌, ◌≤◌, min, Bool, true, false, List, ◌∷◌, length, Ok, Err, slice_index_or, slice_set}
 use Rattle.std.proofs.Math.Option.{Option, none, some}
 use Rattle.records.specs.declared.record.Record.{Record}
 use Rattle.records.specs.declared.places.FourPlaces.{FourPlaces}
+use Rattle.records.specs.declared.places.FreePlaces.{FreePlaces}
 use Rattle.quadtreap.specs.Tree.{Reading, Tree, tree_of, map_nodes}
 use Rattle.quadtreap.specs.Rank.{Ranked, Valid}
 use Rattle.tables.specs.Calls.{Reply, Call, roll, reply}
-use Rattle.records.specs.PlacedNodes.{one, occurs, LiesIn}
-use Rattle.records.specs.Writes.{at, planted, leaf_record}
+use Rattle.records.specs.PlacedNodes.{occurs, LiesIn}
+use Rattle.records.specs.Writes.{planted, first_planted}
 use Rattle.records.specs.PlacedPairs.{PlacedPairs, nodes_of, tree_in, top_place, RanksStand}
+use Rattle.records.specs.Free.{next as next_free, left_after, free_at, FreeIn}
 use Rattle.tables.specs.Totals.{Totals, Tables, mended, raised}
 
--- What a map is made of: both tables, the number of places, the place of the root, the number live, how many places were ever used, and the place that was freed last.
+-- What a map is made of: both tables, the number of places, the place of the root, the number live, and the free places.
 pub record State (K : Type 0) : Type 0 where
   pub records : List Record
   pub tallies : List K
   pub places : ℕ
   pub root : ℕ
   pub live : ℕ
-  pub fresh : ℕ
-  pub freed : ℕ
+  pub free : FreePlaces
 
 -- The state of these parts.
-abbrev pub state : {K : Type 0} → List Record → List K → ℕ → ℕ → ℕ → ℕ → ℕ → State K
-state recs ts N root live fresh freed =
-    record { records = recs; tallies = ts; places = N; root = root; live = live; fresh = fresh; freed = freed }
+abbrev pub state : {K : Type 0} → List Record → List K → ℕ → ℕ → ℕ → FreePlaces → State K
+state recs ts N root live free = record { records = recs; tallies = ts; places = N; root = root; live = live; free = free }
 
 -- The tree of a map without the places of its nodes; an empty map has none.
 abbrev pub map_tree : {K : Type 0} → Option (PlacedPairs K) → Option (Tree K)
@@ -49,20 +46,6 @@ root_of (some t) = top_place t
 abbrev pub in_tree : {K : Type 0} → ℕ → Option (PlacedPairs K) → ℕ
 in_tree i none = 0
 in_tree i (some t) = occurs i (nodes_of t)
-
--- How often a place is in a list.
-abbrev pub among : ℕ → List ℕ → ℕ
-among i [] = 0
-among i (p ∷ ps) = one i p + among i ps
-
--- Once for a place that was not used yet.
-abbrev pub unused : ℕ → ℕ → ℕ
-unused fresh i = cond {A = ℕ} (nat_le fresh i) 1 0
-
--- The freed places, each named by the record of the one that was freed after it.
-abbrev pub Chain : List Record → ℕ → List ℕ → Type 0
-Chain recs head [] = head ≡ 65535
-Chain recs head (p ∷ ps) = (head ≡ p) × Chain recs (at recs p).first ps
 
 -- The tree lies in the records, each node with its rank, and the entry of each node is the join of the tallies under it.
 pub record LiesTallied {K : Type 0} (join : K → K → K) (e : K) (recs : List Record) (ts : List K) (t : PlacedPairs K) : Type 0 where
@@ -86,13 +69,12 @@ pub record Stands {K : Type 0} (join : K → K → K) (e : K) (s : State K) (rs 
   pub tree : map_tree placed ≡ tree_of rs
   pub lies : Lies join e s.records s.tallies placed
   pub top : s.root ≡ root_of placed
-  -- each of the first places is a node's, or was freed, or was not used yet
+  -- each of the first places is a node's or free, no node is past them, and every place ever used has a node or was given back
   pub spare : List ℕ
-  pub chain : Chain s.records s.freed spare
-  pub each : (i : ℕ) → i < s.places → in_tree i placed + (among i spare + unused s.fresh i) ≡ 1
-  pub past : (i : ℕ) → s.places ≤ i → in_tree i placed + among i spare ≡ 0
-  pub used : map_nodes (tree_of rs) + length spare ≡ s.fresh
-  pub fits : s.fresh ≤ s.places
+  pub free : FreeIn s.places s.records s.free spare
+  pub each : (i : ℕ) → i < s.places → in_tree i placed + free_at s.free spare i ≡ 1
+  pub past : (i : ℕ) → s.places ≤ i → in_tree i placed ≡ 0
+  pub used : map_nodes (tree_of rs) + length spare ≡ s.free.fresh
 
 -- Whether the call was refused.
 abbrev pub refuses : Reply → Bool
@@ -112,44 +94,6 @@ pub record Serves {K : Type 0} (join : K → K → K) (e : K) (s s' : State K) (
 abbrev pub Keeps : {K : Type 0} → (K → K → K) → K → State K → State K → Call K → Reply → Type 0
 Keeps {K} join e s s' c r = (cs : List (Call K)) → Stands join e s (roll join s.places cs) → Serves join e s s' c cs r
 
--- The next free place: the one freed last, or the first that was not used yet.
-abbrev pub takes : ℕ → ℕ → ℕ
-takes freed fresh = cond (freed == 65535) fresh freed
-
--- The place freed last, after one is taken.
-abbrev pub freed_after : List Record → ℕ → ℕ
-freed_after recs freed = cond (freed == 65535) 65535 (at recs freed).first
-
--- How many places were ever used, after one is taken.
-abbrev pub fresh_after : ℕ → ℕ → ℕ
-fresh_after freed fresh = cond (freed == 65535) (min (fresh + 1) 65535) fresh
-
--- Four places, taken one after the other.
-abbrev pub four_taken : List Record → ℕ → ℕ → FourPlaces
-four_taken recs freed fresh =
-    let f1 : ℕ = freed_after recs freed in
-    let n1 : ℕ = fresh_after freed fresh in
-    let f2 : ℕ = freed_after recs f1 in
-    let n2 : ℕ = fresh_after f1 n1 in
-    let f3 : ℕ = freed_after recs f2 in
-    let n3 : ℕ = fresh_after f2 n2 in
-    record { shrink = takes freed fresh; split = takes f1 n1; reading = takes f2 n2; outer = takes f3 n3 }
-
--- The place freed last, after four are taken.
-abbrev pub freed_last : List Record → ℕ → ℕ
-freed_last recs freed = freed_after recs (freed_after recs (freed_after recs (freed_after recs freed)))
-
--- How many places were ever used, after four are taken.
-abbrev pub fresh_last : List Record → ℕ → ℕ → ℕ
-fresh_last recs freed fresh =
-    let f1 : ℕ = freed_after recs freed in
-    let n1 : ℕ = fresh_after freed fresh in
-    let f2 : ℕ = freed_after recs f1 in
-    let n2 : ℕ = fresh_after f1 n1 in
-    let f3 : ℕ = freed_after recs f2 in
-    let n3 : ℕ = fresh_after f2 n2 in
-    fresh_after f3 n3
-
 -- Both tables after the leaf at i has become a pair at the places n, and each pair up to the root is settled.
 abbrev pub grown_tables : {K : Type 0} → (K → K → K) → K → ℕ → List Record → List K → ℕ → ℕ → ℕ → K → FourPlaces → Tables K
 grown_tables join e N recs ts i k priority v n =
@@ -159,6 +103,5 @@ grown_tables join e N recs ts i k priority v n =
 -- The state after the first reading: it is the tree, at the next free place.
 abbrev pub started : {K : Type 0} → State K → ℕ → ℕ → K → State K
 started s k priority v =
-    let i : ℕ = takes s.freed s.fresh in
-    state (slice_set s.records i (leaf_record 0 (record { depth = 0; code = 0 }) (record { depth = 33; code = 0 }) 65535 priority k)) (slice_set s.tallies i v) s.places i 1
-    (fresh_after s.freed s.fresh) (freed_after s.records s.freed)
+    let i : ℕ = next_free s.free in
+    state (first_planted s.records i k priority) (slice_set s.tallies i v) s.places i 1 (left_after s.records s.free)

@@ -27,8 +27,8 @@ returns g c =
       keeps =
           keeps_joined g.K.Tally.joined g.K.Tally.neutral c.args.code c.args.extra _ c.descend-leaf.result c.node-r.result c.if-self.false c.descend-leaf.ensures c.node-r.ensures
           c.if-r-ne-READING.false c.if-r-code.false _ rest.1.1.0 _
-          (same_state _ _ _ _ _ _ _ _ _ _ _ _ _ _ c.climb.ensures.same
+          (same_state _ _ _ _ _ _ _ _ _ _ _ _ c.climb.ensures.same
           (c.climb.ensures.run ∙ ap (λ (l : List g.row.K.Denot). climbed g.K.Tally.joined g.K.Tally.neutral c.args.self.now.records.now c.args.self.now.places c.node-r.result.parent l) stored)
-          rest.0 rest.1.0 rest.1.1.0 rest.1.1.1.0 rest.1.1.1.1);
+          rest.0 rest.1.0 rest.1.1.0 rest.1.1.1);
       lends = c.climb.ensures.lends;
     }

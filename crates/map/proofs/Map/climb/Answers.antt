@@ -11,7 +11,7 @@ returns-then-i g c =
     let end : climbed g.K.Tally.joined g.K.Tally.neutral c.args.self.now.records.now c.loop-left.left c.loop-left.i c.loop-left.self.tallies.now ≡ c.loop-left.self.tallies.now =
     ap (λ (m : ℕ). climbed g.K.Tally.joined g.K.Tally.neutral c.args.self.now.records.now c.loop-left.left m c.loop-left.self.tallies.now) c.if-i.true
     ∙ stops g.K.Tally.joined g.K.Tally.neutral c.args.self.now.records.now c.loop-left.left c.loop-left.self.tallies.now in
-    record { run = sym end ∙ i.0; same = i.1; rest = (i.4, (i.5, (i.6, (i.7, i.8)))); lends = (i.2, i.3) }
+    record { run = sym end ∙ i.0; same = i.1; rest = (i.4, (i.5, (i.6, i.7))); lends = (i.2, i.3) }
 
 pub returns : goal.returns
 returns g c =
@@ -19,7 +19,7 @@ returns g c =
     let none : c.loop-left.left ≡ 0 = omega arith in
     let end : climbed g.K.Tally.joined g.K.Tally.neutral c.args.self.now.records.now c.loop-left.left c.loop-left.i c.loop-left.self.tallies.now ≡ c.loop-left.self.tallies.now =
     ap (λ (m : ℕ). climbed g.K.Tally.joined g.K.Tally.neutral c.args.self.now.records.now m c.loop-left.i c.loop-left.self.tallies.now) none in
-    record { run = sym end ∙ i.0; same = i.1; rest = (i.4, (i.5, (i.6, (i.7, i.8)))); lends = (i.2, i.3) }
+    record { run = sym end ∙ i.0; same = i.1; rest = (i.4, (i.5, (i.6, i.7))); lends = (i.2, i.3) }
 
 pub loop-left-preserved : goal.loop-left-preserved
 loop-left-preserved g c =
@@ -33,5 +33,4 @@ loop-left-preserved g c =
       i.5,
       i.6,
       i.7,
-      i.8,
     )

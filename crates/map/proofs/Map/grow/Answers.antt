@@ -21,6 +21,6 @@ returns g c =
           ∙ ap (λ (l : List g.row.K.Denot). raised j e c.args.self.now.places c.mend.new.self.records.now l n.shrink) (m.run ∙ ap (mended j e c.plant.new.records n.shrink) ts1)
           ∙ ap (λ (l : List Record). raised j e c.args.self.now.places l (mended j e c.plant.new.records n.shrink (set (set c.args.self.now.tallies.now n.reading c.args.extra) n.outer e)) n.shrink) (m.same ∙ recs1)
           ∙ ap (λ (l : List Record). raised j e c.args.self.now.places (planted c.args.self.now.records.now c.args.i c.args.code c.args.priority n) (mended j e l n.shrink (set (set c.args.self.now.tallies.now n.reading c.args.extra) n.outer e)) n.shrink) recs1;
-      rest = (r.rest.0 ∙ m.rest.0, (r.rest.1.1.0 ∙ m.rest.1.1.0, (r.rest.1.1.1.0 ∙ m.rest.1.1.1.0, r.rest.1.1.1.1 ∙ m.rest.1.1.1.1)));
+      rest = (r.rest.0 ∙ m.rest.0, (r.rest.1.1.0 ∙ m.rest.1.1.0, r.rest.1.1.1 ∙ m.rest.1.1.1));
       lends = (r.lends.0 ∙ m.lends.0, r.lends.1 ∙ m.lends.1);
     }

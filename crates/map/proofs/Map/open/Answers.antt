@@ -4,7 +4,7 @@ use Rattle.tables.proofs.Opens.{opens}
 
 pub returns : goal.returns
 returns g c = record {
-  stands = opens g.K.Tally.joined g.K.Tally.neutral c.args.records.now c.args.tallies.now c.common-places.result c.common-places.ensures;
+  stands = opens g.K.Tally.joined g.K.Tally.neutral c.args.records.now c.args.tallies.now c.common-places.result c.none_used.result c.common-places.ensures c.none_used.ensures.stands;
   same = (refl, refl);
   lends = (refl, refl);
 }

@@ -11,7 +11,7 @@ returns-then-r g c =
       run =
           sym (stops g.K.Tally.joined g.K.Tally.neutral c.loop-left.left c.loop-left.self.records.now c.loop-left.self.tallies.now c.loop-left.s
           (ap (λ (v : Record). v.parent) (sym c.node-r.ensures) ∙ c.if-r.true)) ∙ i.0;
-      rest = (i.3, (i.4, (i.5, (i.6, i.7))));
+      rest = (i.3, (i.4, (i.5, i.6)));
       lends = (i.1, i.2);
     }
 
@@ -31,6 +31,5 @@ loop-left-preserved g c =
       b.rest.0 ∙ a.rest.0 ∙ i.3,
       b.rest.1.0 ∙ a.rest.1.0 ∙ i.4,
       b.rest.1.1.0 ∙ a.rest.1.1.0 ∙ i.5,
-      b.rest.1.1.1.0 ∙ a.rest.1.1.1.0 ∙ i.6,
-      b.rest.1.1.1.1 ∙ a.rest.1.1.1.1 ∙ i.7,
+      b.rest.1.1.1 ∙ a.rest.1.1.1 ∙ i.6,
     )

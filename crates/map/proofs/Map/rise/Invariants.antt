@@ -12,8 +12,7 @@ invariant-loop-left g l =
     × (l.self.places ≡ l.initial.self.places)
     × (l.self.root ≡ l.initial.self.root)
     × (l.self.live ≡ l.initial.self.live)
-    × (l.self.fresh ≡ l.initial.self.fresh)
-    × (l.self.freed ≡ l.initial.self.freed)
+    × (l.self.free ≡ l.initial.self.free)
 
 abbrev pub decreases-loop-left : goal.decreases-loop-left
 decreases-loop-left g l = l.left

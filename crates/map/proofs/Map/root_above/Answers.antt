@@ -1,7 +1,7 @@
 use Rattle.std.proofs.Common.{sym, ap, ◌∙◌}
 use Rattle.records.specs.declared.record.Record.{Record}
 use Rattle.map.proofs.Map.root_above.Goals as goal
-use Rattle.tables.proofs.GiveBack.{stops, turns}
+use Rattle.tables.proofs.RootLaws.{stops, turns}
 
 pub returns-then-r : goal.returns-then-r
 returns-then-r g c =
