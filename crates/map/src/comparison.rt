@@ -7,8 +7,8 @@ ghost use Rattle.tables.specs.Heights.{Heights};
 ghost use Rattle.tables.specs.Tallies.{Answers, SameAnswers, DiscEffort};
 
 use crate::Map;
-use crate::tallies::Tallied;
 use shape::{Disc, Shape};
+use tables::Tallied;
 use tally::Tally;
 
 /// What two maps answer to the same shape.

@@ -18,8 +18,7 @@ mod tallies;
 
 pub use comparison::{Compared, compare};
 use records::{FourPlaces, FreePlaces, NONE, READING, Record};
-pub use tables::MapFault;
-pub use tallies::Tallied;
+pub use tables::{MapFault, Tallied};
 use tally::Tally;
 
 /// The tally at `i`, neutral past the end.

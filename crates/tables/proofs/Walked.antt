@@ -1,10 +1,12 @@
 -- The tally of a shape is what the tree of the live readings answers.
-use Rattle.std.proofs.Common.{◌≡◌, ℕ, ◌*◌, ◌≤◌, ◌≢◌, List, sym, refl, ap, ◌∙◌, subst, inl, inr, arith}
-use Rattle.std.proofs.lemmas.Bool.{cases_eq}
-use Rattle.tables.specs.declared.walk.Spot.{Spot}
+use Rattle.std.proofs.Common.{◌≡◌, ℕ, cond, ◌*◌, ◌≤◌, ◌≢◌, List, sym, refl, ap, ◌∙◌, subst, inl, inr, arith}
+use Rattle.std.proofs.lemmas.Bool.{cases_eq, ne_eqb}
+use Rattle.tables.specs.declared.walk.Position.TheVariants.{Down, Finished}
+use Rattle.tables.specs.declared.walk.Tallied.{Tallied}
 use Rattle.crossing.specs.Regions.{Places, crossings}
 use Rattle.quadtreap.specs.Tree.{Reading, tree_of, nodes, map_height}
 use Rattle.quadtreap.specs.Walk.{Tests, asked, Joins, Answer, answer, map_walk, Subset}
+use Rattle.records.specs.PlacedNodes.{place_of}
 use Rattle.records.specs.PlacedPairs.{PlacedPairs, nodes_of, tree_in}
 use Rattle.tables.specs.Calls.{roll}
 use Rattle.tables.specs.Stands.{State, Stands, LiesTallied, map_tree}
@@ -17,14 +19,14 @@ use Rattle.tables.proofs.Finds.{none_of, held, held_tree, held_lain, held_top, h
 use Rattle.tables.proofs.Rolls.{ranked_roll}
 use Rattle.tables.proofs.Sights.{numbered_agree}
 use Rattle.tables.proofs.Runs.{stops}
-use Rattle.tables.proofs.Turns.{Laid, whole_walk}
+use Rattle.tables.proofs.Turns.{Laid, far, whole_walk}
 
 -- what a walk has found
-abbrev pub found : {K : Type 0} → Spot K → Answer K
+abbrev pub found : {K : Type 0} → Tallied K → Answer K
 found s = answer s.tally s.expanded
 
 module _ {K : Type 0} (join : K → K → K) (e : K) (laws : Joins join e) (s : State K) where
-  abbrev run : Tests → Spot K
+  abbrev run : Tests → Tallied K
   run q = ran join e q s.records s.tallies (s.places * 2) (starts s.root e)
 
   module _ (rs : List (Reading K)) (st : Stands join e s rs) (q : Tests) where
@@ -34,20 +36,21 @@ module _ {K : Type 0} (join : K → K → K) (e : K) (laws : Joins join e) (s : 
         ∙ ap (map_walk join e q) (sym (ap map_tree (none_of 0 join e s.records s.tallies s.root st.placed st.lies st.top is)) ∙ st.tree)
 
     found_held : s.root ≢ 65535 → found (run q) ≡ map_walk join e q (tree_of rs)
-    found_held far =
-        let t : PlacedPairs K = held 0 join e s rs st far in
-        let lain : LiesTallied join e s.records s.tallies t = held_lain 0 join e s rs st far in
+    found_held some =
+        let t : PlacedPairs K = held 0 join e s rs st some in
+        let lain : LiesTallied join e s.records s.tallies t = held_lain 0 join e s rs st some in
         let laid : Laid join e q laws s.records s.tallies 65535 (nodes_of t) = record { laid = lain.kept.laid; totals = lain.totals; once = lain.kept.once; low = lain.kept.low } in
-        let few : 2 * nodes (tree_in t) ≤ s.places * 2 = (let f = held_few 0 join e s rs st far in omega arith) in
-        ap (λ (i : ℕ). found (ran join e q s.records s.tallies (s.places * 2) (starts i e))) (held_top 0 join e s rs st far)
+        let few : 2 * nodes (tree_in t) ≤ s.places * 2 = (let f = held_few 0 join e s rs st some in omega arith) in
+        ap (λ (i : ℕ). found (ran join e q s.records s.tallies (s.places * 2) (starts i e))) (held_top 0 join e s rs st some)
+        ∙ ap (λ b. found (ran join e q s.records s.tallies (s.places * 2) (record { position = cond b Finished (Down (place_of (nodes_of t))); found = record { tally = e; expanded = 0 } }))) (ne_eqb (place_of (nodes_of t)) 65535 (far join e q laws s.records s.tallies 65535 (nodes_of t) laid))
         ∙ ap found (whole_walk join e q laws s.records s.tallies (nodes_of t) (s.places * 2) laid few)
-        ∙ ap (map_walk join e q) (sym (held_tree 0 join e s rs st far))
+        ∙ ap (map_walk join e q) (sym (held_tree 0 join e s rs st some))
 
     pub found_walk : found (run q) ≡ map_walk join e q (tree_of rs)
-    found_walk = elim (cases_eq s.root 65535) [ inl is ↦ found_empty is | inr far ↦ found_held far ]
+    found_walk = elim (cases_eq s.root 65535) [ inl is ↦ found_empty is | inr some ↦ found_held some ]
 
   module _ (inner outer : Places) (sub : Subset inner outer) where
-    pub answers : (x : Spot K) → x ≡ run (numbered inner outer) → Answers join e inner outer s (found x)
+    pub answers : (x : Tallied K) → x ≡ run (numbered inner outer) → Answers join e inner outer s (found x)
     answers x is cs st =
         let rs : List (Reading K) = roll join s.places cs in
         let value : found x ≡ map_walk join e (asked inner outer) (tree_of rs) =

@@ -1,17 +1,20 @@
 -- The walk over the tables that tallies a shape.
---   numbered              the tests of a shape for any two numbers as the depth and the code of a box
---   Seen                  how a box lies to a shape
---   moved, took, opened   where a walk is after a node
---   crossed, arrived      what follows where the walk has come down to a node
---   returned, turned      what follows where it is done with a node, and one turn
---   starts, ran           the turns of a walk from its start
-use Rattle.std.specs.Prelude.{◌≡◌, ℕ, zero, suc, ◌+◌, min, Bool, true, false, cond, List, ◌==◌, slice_index_or}
+--   numbered        the tests of a shape for any two numbers as the depth and the code of a box
+--   crossed, seen   how a node lies to a shape
+--   arrived         what follows where the walk has come down to a node
+--   returned        where the walk goes from a node that it is done with
+--   turned          one turn of a walk
+--   starts, ran     the turns of a walk from its start
+use Rattle.std.specs.Prelude.{ℕ, zero, suc, ◌+◌, min, cond, List, ◌==◌, slice_index_or}
 use Rattle.records.specs.declared.record.Record.{Record}
 use Rattle.tables.specs.declared.walk.Sight.{Sight}
 use Rattle.tables.specs.declared.walk.Sight.TheVariants.{Misses, Held, Crosses}
+use Rattle.tables.specs.declared.walk.Position.{Position}
+use Rattle.tables.specs.declared.walk.Position.TheVariants.{Down, Back, Finished}
+use Rattle.tables.specs.declared.walk.Tallied.{Tallied}
 use Rattle.tables.specs.declared.walk.Spot.{Spot}
 use Rattle.place.specs.Codes.{motor_of, root_of}
-use Rattle.place.specs.Boxes.{Box, cut, in_box}
+use Rattle.place.specs.Boxes.{cut, in_box}
 use Rattle.crossing.specs.Regions.{Places, misses, held}
 use Rattle.quadtreap.specs.Walk.{Tests}
 use Rattle.records.specs.Writes.{at, box_of}
@@ -25,51 +28,35 @@ numbered inner outer =
       has = λ c. inner (motor_of c) (root_of c);
     }
 
--- How a box lies to a shape: it misses, or else it is held, or else it crosses.
-abbrev pub Seen : Tests → Box → Sight → Type 0
-Seen q B Misses = q.misses B ≡ true
-Seen q B Held = (q.misses B ≡ false) × (q.held B ≡ true)
-Seen q B Crosses = (q.misses B ≡ false) × (q.held B ≡ false)
+-- How a node with the record r lies to a shape where its box crosses: a reading is held if the inner set has its place and is missed if not, an inner box is missed, and any other node crosses.
+abbrev pub crossed : Tests → Record → Sight
+crossed q r = cond (r.kind == 0) (cond (q.has r.code) Held Misses) (cond (r.kind == 1) Misses Crosses)
 
--- The walk goes to the node at i, down to it or done with it.
-abbrev pub moved : {K : Type 0} → Spot K → ℕ → Bool → Spot K
-moved s i down = record { node = i; down = down; tally = s.tally; expanded = s.expanded }
+-- How a node with the record r lies to a shape: its box is missed, or else held, or else crosses.
+abbrev pub seen : Tests → Record → Sight
+seen q r = cond (q.misses (box_of r.outer)) Misses (cond (q.held (box_of r.outer)) Held (crossed q r))
 
--- The walk is done with its node, and has joined its tally k.
-abbrev pub took : {K : Type 0} → (K → K → K) → Spot K → K → Spot K
-took join s k = record { node = s.node; down = false; tally = join s.tally k; expanded = s.expanded }
+-- What follows where the walk has come down to the node at i with the record r and the tally k: it is done with a node that is missed, and with one that is held after it has joined its tally, and it expands one that crosses and goes down to the first child.
+abbrev pub arrived : {K : Type 0} → (K → K → K) → ℕ → Record → K → Tallied K → Sight → Spot K
+arrived join i r k x Misses = record { position = Back i; found = x }
+arrived join i r k x Held = record { position = Back i; found = record { tally = join x.tally k; expanded = x.expanded } }
+arrived join i r k x Crosses = record { position = Down r.first; found = record { tally = x.tally; expanded = x.expanded + 1 } }
 
--- The walk has expanded its node, and goes down to the first child, at i.
-abbrev pub opened : {K : Type 0} → Spot K → ℕ → Spot K
-opened s i = record { node = i; down = true; tally = s.tally; expanded = s.expanded + 1 }
+-- Where the walk goes from the node at i, which it is done with and whose parent is at p: the second child follows the first, the parent follows the second, and where 65535 is the parent the walk is finished.
+abbrev pub returned : List Record → ℕ → ℕ → Position
+returned recs p i = cond (p == 65535) Finished (cond ((at recs p).first == i) (Down (at recs p).second) (Back p))
 
--- What follows at a node that crosses, with the record r and the tally k: a reading is taken if the inner set has its place, an inner box is passed over, and any other node is expanded.
-abbrev pub crossed : {K : Type 0} → (K → K → K) → Tests → Record → K → Spot K → Spot K
-crossed join q r k s =
-    cond (r.kind == 0) (cond (q.has r.code) (took join s k) (moved s s.node false))
-    (cond (r.kind == 1) (moved s s.node false) (opened s r.first))
+-- One turn of a walk that has found x.
+abbrev pub turned : {K : Type 0} → (K → K → K) → K → Tests → List Record → List K → Tallied K → Position → Spot K
+turned join e q recs ts x (Down i) = arrived join i (at recs i) (slice_index_or ts i e) x (seen q (at recs i))
+turned join e q recs ts x (Back i) = record { position = returned recs (at recs i).parent i; found = x }
+turned join e q recs ts x Finished = record { position = Finished; found = x }
 
--- What follows where the walk has come down to a node with the record r and the tally k.
-abbrev pub arrived : {K : Type 0} → (K → K → K) → Tests → Record → K → Spot K → Spot K
-arrived join q r k s =
-    cond (q.misses (box_of r.outer)) (moved s s.node false)
-    (cond (q.held (box_of r.outer)) (took join s k) (crossed join q r k s))
-
--- What follows where the walk is done with a node whose parent is at p: the second child follows the first, the parent follows the second, and 65535 is no node.
-abbrev pub returned : {K : Type 0} → List Record → ℕ → Spot K → Spot K
-returned recs p s =
-    cond (p == 65535) (moved s 65535 false)
-    (cond ((at recs p).first == s.node) (moved s (at recs p).second true) (moved s p false))
-
--- One turn of a walk.
-abbrev pub turned : {K : Type 0} → (K → K → K) → K → Tests → List Record → List K → Spot K → Spot K
-turned join e q recs ts s = cond s.down (arrived join q (at recs s.node) (slice_index_or ts s.node e) s) (returned recs (at recs s.node).parent s)
-
--- A walk starts above the node at i, with nothing tallied.
+-- A walk starts above the root at i with nothing tallied, and is finished where 65535 is the root.
 abbrev pub starts : {K : Type 0} → ℕ → K → Spot K
-starts i e = record { node = i; down = true; tally = e; expanded = 0 }
+starts i e = record { position = cond (i == 65535) Finished (Down i); found = record { tally = e; expanded = 0 } }
 
--- The turns of a walk, n at most, until it is at no node.
-abbrev pub ran : {K : Type 0} → (K → K → K) → K → Tests → List Record → List K → ℕ → Spot K → Spot K
-ran join e q recs ts zero s = s
-ran join e q recs ts (suc n) s = cond (s.node == 65535) s (ran join e q recs ts n (turned join e q recs ts s))
+-- What a walk has found after n turns.
+abbrev pub ran : {K : Type 0} → (K → K → K) → K → Tests → List Record → List K → ℕ → Spot K → Tallied K
+ran join e q recs ts zero s = s.found
+ran join e q recs ts (suc n) s = ran join e q recs ts n (turned join e q recs ts s.found s.position)

@@ -6,4 +6,4 @@ mod faults;
 mod walk;
 
 pub use fault::MapFault;
-pub use walk::{Sight, Spot};
+pub use walk::{Position, Sight, Spot, Tallied};

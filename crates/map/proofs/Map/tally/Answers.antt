@@ -8,7 +8,7 @@ returns g c =
     record {
       answers =
           answers g.K.Tally.joined g.K.Tally.neutral (record { assoc = m.associative; comm = m.commutative; neutral = m.neutral_left }) _
-          (g.S.Shape.inner c.args.shape.now) (g.S.Shape.outer c.args.shape.now) (g.met.S.Shape.nested c.args.shape.now) c.walk-end.result c.walk-end.ensures.value;
+          (g.S.Shape.inner c.args.shape.now) (g.S.Shape.outer c.args.shape.now) (g.met.S.Shape.nested c.args.shape.now) c.walk.result c.walk.ensures.value;
       same = refl;
       lends = (refl, refl);
     }
