@@ -20,15 +20,14 @@ returns-then-r-code g c = record {
 
 pub returns : goal.returns
 returns g c =
-    let rest = c.climb.ensures.rest in
     let stored : c.store.new.tallies ≡ set c.args.self.now.tallies.now c.descend-leaf.result (g.K.Tally.joined (get_or c.args.self.now.tallies.now c.descend-leaf.result g.K.Tally.neutral) c.args.extra) =
     c.store.ensures ∙ ap (λ x. set c.args.self.now.tallies.now c.descend-leaf.result x) (c.join.ensures.value ∙ ap (λ x. g.K.Tally.joined x c.args.extra) c.entry-old.ensures) in
     record {
       keeps =
           keeps_joined g.K.Tally.joined g.K.Tally.neutral c.args.code c.args.extra _ c.descend-leaf.result c.node-r.result c.if-self.false c.descend-leaf.ensures c.node-r.ensures
-          c.if-r-ne-READING.false c.if-r-code.false _ rest.1.1.0 _
+          c.if-r-ne-READING.false c.if-r-code.false _ refl _
           (same_state _ _ _ _ _ _ _ _ _ _ _ _ c.climb.ensures.same
           (c.climb.ensures.run ∙ ap (λ (l : List g.row.K.Denot). climbed g.K.Tally.joined g.K.Tally.neutral c.args.self.now.records.now c.args.self.now.places c.node-r.result.parent l) stored)
-          rest.0 rest.1.0 rest.1.1.0 rest.1.1.1);
-      lends = c.climb.ensures.lends;
+          refl refl refl refl);
+      lends = (refl, refl);
     }
