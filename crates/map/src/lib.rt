@@ -1,11 +1,12 @@
 // A map over two lent tables.
 #![tactic(auto)]
 
-ghost use Rattle.std.specs.Prelude.{◌≡◌, min, [], slice_index_or, slice_set};
+ghost use Rattle.std.specs.Prelude.{◌≡◌, ◌&&◌, nat_eq, min, [], slice_index_or, slice_set, MatchOption};
 ghost use Rattle.map.specs.Maps.{state_of, Lends};
 ghost use Rattle.records.specs.Writes.{at};
 ghost use Rattle.records.specs.Promises.{Descends};
 ghost use Rattle.tables.specs.Calls.{repeats};
+ghost use Rattle.tables.specs.Finds.{LeafOf, Lacks};
 ghost use Rattle.tables.specs.Stands.{Stands, Keeps};
 
 mod calls;
@@ -42,6 +43,13 @@ pub(crate) fn store<K: Tally>(tallies: &mut [K], i: u16, k: K)
     if i < tallies.len() {
         tallies[i] = k;
     }
+}
+
+/// Whether a record is the leaf of the reading with a code.
+pub(crate) fn is_reading(record: Record, code: u32) -> bool
+    ensures value { result ≡ (nat_eq «record».kind 0 && nat_eq «record».code code) }
+{
+    record.kind == READING && record.code == code
 }
 
 /// How many places both tables have, 65,533 at most.
@@ -100,22 +108,29 @@ impl<'a, K: Tally> Map<'a, K> {
         nodes::descend::<K>(self.records, self.root, code, self.places as u32)
     }
 
+    /// The leaf of the reading with a code, and its record.
+    pub(crate) fn find(&self, code: u32) -> Option<(u16, Record)>
+        ensures value { MatchOption result (Lacks K.Tally.joined K.Tally.neutral (state_of self.now) code) (λ f. LeafOf (state_of self.now) code f.0 f.1) }
+    {
+        if self.root == NONE {
+            return None;
+        }
+        let leaf = self.descend(code);
+        let r = self.node(leaf);
+        if is_reading(r, code) {
+            return Some((leaf, r));
+        }
+        None
+    }
+
     /// Joins a tally to that of the reading with a code.
     pub(crate) fn again_code(&mut self, code: u32, extra: K) -> Result<u16, MapFault>
         ensures keeps { Keeps K.Tally.joined K.Tally.neutral (state_of self.old) (state_of self.new) (repeats code extra) result }
         ensures lends { Lends self.old self.new }
     {
-        if self.root == NONE {
+        let Some((leaf, r)) = self.find(code) else {
             return Err(MapFault::Absent);
-        }
-        let leaf = self.descend(code);
-        let r = self.node(leaf);
-        if r.kind != READING {
-            return Err(MapFault::Absent);
-        }
-        if r.code != code {
-            return Err(MapFault::Absent);
-        }
+        };
         let places = self.places;
         let old = self.entry(leaf);
         store(self.tallies, leaf, old.join(extra));

@@ -7,7 +7,7 @@ ghost use Rattle.tables.specs.Removal.{root_above, struck_state, emptied_state};
 
 use crate::Map;
 use crate::renewal::climb;
-use records::{FourPlaces, NONE, READING, Sinking};
+use records::{FourPlaces, NONE, Sinking};
 use tables::MapFault;
 use tally::Tally;
 
@@ -59,17 +59,9 @@ impl<'a, K: Tally> Map<'a, K> {
         ensures keeps { Keeps K.Tally.joined K.Tally.neutral (state_of self.old) (state_of self.new) (strikes code) result }
         ensures lends { Lends self.old self.new }
     {
-        if self.root == NONE {
+        let Some((leaf, r)) = self.find(code) else {
             return Err(MapFault::Absent);
-        }
-        let leaf = self.descend(code);
-        let r = self.node(leaf);
-        if r.kind != READING {
-            return Err(MapFault::Absent);
-        }
-        if r.code != code {
-            return Err(MapFault::Absent);
-        }
+        };
         if r.parent == NONE {
             self.strike_last(leaf);
             return Ok(self.live);
@@ -81,8 +73,7 @@ impl<'a, K: Tally> Map<'a, K> {
                 self.finish_strike(i, places);
                 Ok(self.live)
             }
-            Sinking::On(_) => Err(MapFault::Absent),
-            Sinking::Lost => Err(MapFault::Absent),
+            Sinking::On(_) | Sinking::Lost => Err(MapFault::Absent),
         }
     }
 }

@@ -1,7 +1,7 @@
 -- Entering: what each of its ways serves.
-use Rattle.std.proofs.Common.{◌≡◌, ℕ, suc, ◌+◌, ◌/◌, ◌^◌, ◌<◌, Bool, true, false, cond, ◌&&◌, eqb, leb, ◌≢◌, ◌⊎◌, List, [], length, set, Ok, Err, sym, refl, ap, ◌∙◌, subst, inl, inr, arith, get_or-set_other}
+use Rattle.std.proofs.Common.{◌≡◌, ℕ, suc, ◌+◌, ◌/◌, ◌^◌, ◌<◌, Bool, true, false, cond, ◌&&◌, eqb, leb, ◌≢◌, List, [], length, set, Ok, Err, sym, refl, ap, ◌∙◌, subst, arith, get_or-set_other}
 use mathlib.Core.Option.{none, some}
-use Rattle.std.proofs.lemmas.Bool.{eq-eqb, eqb-true, eqb-false, leb-false, and_parts, and_cases}
+use Rattle.std.proofs.lemmas.Bool.{eq-eqb, eqb-true, leb-false, and_parts}
 use Rattle.records.specs.declared.record.Record.{Record}
 use Rattle.tables.specs.declared.fault.MapFault.TheVariants.{Taken, Full}
 use Rattle.records.specs.declared.places.FourPlaces.{FourPlaces}
@@ -17,8 +17,7 @@ use Rattle.records.specs.Promises.{Descends}
 use Rattle.records.specs.Free.{next as next_free, four_taken, four_left}
 use Rattle.tables.specs.Stands.{State, state, Stands, Serves, Keeps, started, grown_tables, grown}
 use Rattle.tables.specs.Totals.{Tables, tables, mended, raised}
-use Rattle.tables.proofs.Finds.{none_found, found}
-use Rattle.tables.proofs.Agains.{other_content}
+use Rattle.tables.proofs.Finds.{none_found, found, lacks_other}
 use Rattle.tables.proofs.Firsts.{no_readings, stands_first, first_below}
 use Rattle.tables.proofs.Enters.{stands_entered, records_past, tallies_past}
 
@@ -107,11 +106,6 @@ module _ {K : Type 0} (join : K → K → K) (e : K) where
         ap (λ b. is_some (cond b (some r) none)) (eq-eqb k r.code (sym code ∙ ap (λ (x : Record). x.code) is))
     own_content (box I) p i C q is kind code = let z : ◌≡◌ {A = ℕ} 1 0 = sym (ap (λ (x : Record). x.kind) is) ∙ kind in absurd (omega arith)
 
-    -- a leaf that is not
-    other_leaf : (q : Record) → (eqb q.kind 0 && eqb q.code k) ≡ false → (q.kind ≢ 0) ⊎ (q.code ≢ k)
-    other_leaf q h =
-        elim (and_cases (eqb q.kind 0) (eqb q.code k) h) [ inl a ↦ inl (eqb-false q.kind 0 a) | inr b ↦ inr (eqb-false q.code k b) ]
-
     module _ (s : State K) (i : ℕ) (q : Record) (far : s.root ≢ 65535) (down : Descends K s.records s.root k s.places i) (is : q ≡ at s.records i) where
       pub keeps_taken : (eqb q.kind 0 && eqb q.code k) ≡ true → Keeps join e s s call (Err Taken)
       keeps_taken own cs st =
@@ -120,19 +114,14 @@ module _ {K : Type 0} (join : K → K → K) (e : K) where
           serves_taken s cs st
           (ap is_some (sym f.tells) ∙ own_content f.content _ i f.box q (is ∙ f.lies) (eqb-true q.kind 0 parts.0) (eqb-true q.code k parts.1))
 
-      gone_by : (cs : List (Call K)) → Stands join e s (roll join s.places cs) → (eqb q.kind 0 && eqb q.code k) ≡ false → lookup k (roll join s.places cs) ≡ none
-      gone_by cs st other =
-          let f = found k join e s _ st far i down in
-          sym f.tells ∙ other_content join e k v f.content _ i f.box q (is ∙ f.lies) (other_leaf q other)
-
       pub keeps_full : (eqb q.kind 0 && eqb q.code k) ≡ false → leb ((s.places + 3) / 4) s.live ≡ true → Keeps join e s s call (Err Full)
-      keeps_full other all cs st = serves_full s cs st (ap is_some (gone_by cs st other)) (full_is s _ true st all)
+      keeps_full other all cs st = serves_full s cs st (ap is_some (lacks_other join e s k i q far down is other cs st)) (full_is s _ true st all)
 
       pub keeps_entered : (eqb q.kind 0 && eqb q.code k) ≡ false → leb ((s.places + 3) / 4) s.live ≡ false → k < 2 ^ 32
           → (m : ℕ) → m ≡ s.live + 1 → (s' : State K) → s' ≡ grown join e s i k priority v → Keeps join e s s' call (Ok m)
       keeps_entered other open' small m live s' new cs st =
           let rs : List (Reading K) = roll join s.places cs in
-          let gone : lookup k rs ≡ none = gone_by cs st other in
+          let gone : lookup k rs ≡ none = lacks_other join e s k i q far down is other cs st in
           let few : length rs < (s.places + 3) / 4 = let c = st.count in omega (arith, leb-false ((s.places + 3) / 4) s.live open') in
           let still : full s.places rs ≡ false = full_is s rs false st open' in
           subst (λ (u : State K). Serves join e s u call cs (Ok m)) (sym new)
