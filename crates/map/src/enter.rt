@@ -1,21 +1,15 @@
 //! Entering a reading.
-ghost use Rattle.std.specs.Prelude.{◌≡◌, ◌+◌, ◌/◌, ◌&&◌, nat_eq, nat_le};
+ghost use Rattle.std.specs.Prelude.{◌≡◌, ◌+◌, ◌/◌, ◌^◌, ◌<◌, nat_le};
 ghost use Rattle.map.specs.Maps.{state_of, Lends};
 ghost use Rattle.records.specs.Free.{next as next_free, left_after, four_taken, four_left};
 ghost use Rattle.tables.specs.Calls.{enters};
-ghost use Rattle.tables.specs.Stands.{Keeps, started};
+ghost use Rattle.tables.specs.Stands.{Keeps, started, grown};
 
-use crate::{Map, store};
-use records::{FourPlaces, FreePlaces, NONE, READING, Record};
+use crate::renewal::mend_and_rise;
+use crate::{Map, is_reading, store};
+use records::{FourPlaces, FreePlaces, NONE};
 use tables::MapFault;
 use tally::Tally;
-
-/// Whether a record is the leaf of the reading with a code.
-fn is_reading(record: Record, code: u32) -> bool
-    ensures value { result ≡ (nat_eq «record».kind 0 && nat_eq «record».code code) }
-{
-    record.kind == READING && record.code == code
-}
 
 impl<'a, K: Tally> Map<'a, K> {
     /// Whether as many readings are live as the places have room for.
@@ -25,7 +19,8 @@ impl<'a, K: Tally> Map<'a, K> {
         (self.places as u32 + 3) / 4 <= self.live as u32
     }
 
-    /// The next free place, and the free places once it is taken.
+    /// The next free place, and the free places once it is taken. It is asked by a shared reference, since the check does
+    /// not follow a field of a map that is lent as `&` where the map is held as `&mut`.
     fn one_free(&self) -> (u16, FreePlaces)
         ensures value { result ≡ (next_free self.now.free, left_after self.now.records.now self.now.free) }
     {
@@ -53,7 +48,24 @@ impl<'a, K: Tally> Map<'a, K> {
         self.free = left;
     }
 
+    /// Makes the leaf at `i` a pair over what it held and a new reading, at four free places, and settles each pair up to the root.
+    fn grow(&mut self, i: u16, code: u32, priority: u32, extra: K)
+        requires { self.old.live + 1 < 2 ^ 16 }
+        ensures run { state_of self.new ≡ grown K.Tally.joined K.Tally.neutral (state_of self.old) i code priority extra }
+        ensures lends { Lends self.old self.new }
+    {
+        let (n, left) = self.four_free();
+        let places = self.places;
+        nodes::plant::<K>(self.records, i, code, priority, n);
+        store(self.tallies, n.reading, extra);
+        store(self.tallies, n.outer, K::neutral_value());
+        self.root = mend_and_rise(self.records, self.tallies, places, n.shrink);
+        self.live += 1;
+        self.free = left;
+    }
+
     /// Puts the reading with a code on the roll, with a priority and a tally.
+    /// It does not ask `find`, so that it goes down once: a new reading needs the leaf that holds none with its code.
     pub(crate) fn enter_code(&mut self, code: u32, priority: u32, extra: K) -> Result<u16, MapFault>
         ensures keeps { Keeps K.Tally.joined K.Tally.neutral (state_of self.old) (state_of self.new) (enters code priority extra) result }
         ensures lends { Lends self.old self.new }
@@ -73,10 +85,7 @@ impl<'a, K: Tally> Map<'a, K> {
         if self.is_full() {
             return Err(MapFault::Full);
         }
-        let (n, left) = self.four_free();
-        self.grow(leaf, code, priority, extra, n);
-        self.free = left;
-        self.live += 1;
+        self.grow(leaf, code, priority, extra);
         Ok(self.live)
     }
 }

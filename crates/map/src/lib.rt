@@ -1,28 +1,30 @@
 // A map over two lent tables.
 #![tactic(auto)]
 
-ghost use Rattle.std.specs.Prelude.{◌≡◌, min, [], slice_index_or, slice_set};
+ghost use Rattle.std.specs.Prelude.{◌≡◌, ◌&&◌, nat_eq, min, [], slice_index_or, slice_set, MatchOption};
 ghost use Rattle.map.specs.Maps.{state_of, Lends};
 ghost use Rattle.records.specs.Writes.{at};
 ghost use Rattle.records.specs.Promises.{Descends};
 ghost use Rattle.tables.specs.Calls.{repeats};
-ghost use Rattle.tables.specs.Totals.{renewed, climbed, mended, tables, raised};
-ghost use Rattle.tables.specs.Stands.{Stands, Keeps, grown_tables};
+ghost use Rattle.tables.specs.Finds.{LeafOf, Lacks};
+ghost use Rattle.tables.specs.Stands.{Stands, Keeps};
 
 mod calls;
 mod comparison;
 mod enter;
 mod heights;
+mod renewal;
 mod strike;
 mod tallies;
 
+use crate::renewal::climb;
 pub use comparison::{Compared, compare};
-use records::{FourPlaces, FreePlaces, NONE, READING, Record};
+use records::{FreePlaces, NONE, READING, Record};
 pub use tables::{MapFault, Tallied};
 use tally::Tally;
 
 /// The tally at `i`, neutral past the end.
-fn entry<K: Tally>(tallies: &[K], i: u16) -> K
+pub(crate) fn entry<K: Tally>(tallies: &[K], i: u16) -> K
     ensures { result ≡ slice_index_or tallies.now i K.Tally.neutral }
 {
     let i = i as usize;
@@ -42,13 +44,11 @@ pub(crate) fn store<K: Tally>(tallies: &mut [K], i: u16, k: K)
     }
 }
 
-/// The tally at `i` anew, from those of two children.
-fn renew<K: Tally>(tallies: &mut [K], i: u16, x: u16, y: u16)
-    ensures { tallies.new ≡ renewed K.Tally.joined K.Tally.neutral tallies.old i x y }
+/// Whether a record is the leaf of the reading with a code.
+pub(crate) fn is_reading(record: Record, code: u32) -> bool
+    ensures value { result ≡ (nat_eq «record».kind 0 && nat_eq «record».code code) }
 {
-    let a = entry(tallies, x);
-    let b = entry(tallies, y);
-    store(tallies, i, a.join(b));
+    record.kind == READING && record.code == code
 }
 
 /// How many places both tables have, 65,533 at most.
@@ -107,76 +107,19 @@ impl<'a, K: Tally> Map<'a, K> {
         nodes::descend::<K>(self.records, self.root, code, self.places as u32)
     }
 
-    /// Renews the tallies from the node at `from` up to the root.
-    fn climb(&mut self, from: u16)
-        ensures run { self.new.tallies.now ≡ climbed K.Tally.joined K.Tally.neutral self.old.records.now self.old.places from self.old.tallies.now }
-        ensures same { self.new.records.now ≡ self.old.records.now }
-        ensures rest { (self.new.places ≡ self.old.places) × ((self.new.root ≡ self.old.root) × ((self.new.live ≡ self.old.live) × (self.new.free ≡ self.old.free))) }
-        ensures lends { Lends self.old self.new }
+    /// The leaf of the reading with a code, and its record.
+    pub(crate) fn find(&self, code: u32) -> Option<(u16, Record)>
+        ensures value { MatchOption result (Lacks K.Tally.joined K.Tally.neutral (state_of self.now) code) (λ f. LeafOf (state_of self.now) code f.0 f.1) }
     {
-        let mut i = from;
-        let mut left = self.places;
-        while left > 0 {
-            if i == NONE {
-                return;
-            }
-            let r = self.node(i);
-            renew(self.tallies, i, r.first, r.second);
-            i = r.parent;
-            left -= 1;
+        if self.root == NONE {
+            return None;
         }
-    }
-
-    /// Renews the two tallies of the pair at `x`, if there is one.
-    fn mend(&mut self, x: u16)
-        ensures run { self.new.tallies.now ≡ mended K.Tally.joined K.Tally.neutral self.old.records.now x self.old.tallies.now }
-        ensures same { self.new.records.now ≡ self.old.records.now }
-        ensures rest { (self.new.places ≡ self.old.places) × ((self.new.root ≡ self.old.root) × ((self.new.live ≡ self.old.live) × (self.new.free ≡ self.old.free))) }
-        ensures lends { Lends self.old self.new }
-    {
-        if x == NONE {
-            return;
+        let leaf = self.descend(code);
+        let r = self.node(leaf);
+        if is_reading(r, code) {
+            return Some((leaf, r));
         }
-        let rx = self.node(x);
-        let rw = self.node(rx.first);
-        renew(self.tallies, rx.first, rw.first, rw.second);
-        renew(self.tallies, x, rx.first, rx.second);
-    }
-
-    /// Settles each pair from the one at `from` up to the root. Answers the root.
-    fn rise(&mut self, from: u16) -> u16
-        ensures run { tables self.new.records.now self.new.tallies.now result ≡ raised K.Tally.joined K.Tally.neutral self.old.places self.old.records.now self.old.tallies.now from }
-        ensures rest { (self.new.places ≡ self.old.places) × ((self.new.root ≡ self.old.root) × ((self.new.live ≡ self.old.live) × (self.new.free ≡ self.old.free))) }
-        ensures lends { Lends self.old self.new }
-    {
-        let mut s = from;
-        let mut left = self.places;
-        while left > 0 {
-            let r = self.node(s);
-            if r.parent == NONE {
-                return s;
-            }
-            let v = nodes::settle::<K>(self.records, s);
-            self.mend(v.low);
-            self.mend(v.top);
-            s = v.top;
-            left -= 1;
-        }
-        s
-    }
-
-    /// Makes the leaf at `i` a pair over what it held and a new reading, and settles each pair up to the root.
-    pub(crate) fn grow(&mut self, i: u16, code: u32, priority: u32, extra: K, n: FourPlaces)
-        ensures run { tables self.new.records.now self.new.tallies.now self.new.root ≡ grown_tables K.Tally.joined K.Tally.neutral self.old.places self.old.records.now self.old.tallies.now i code priority extra n }
-        ensures rest { (self.new.places ≡ self.old.places) × ((self.new.live ≡ self.old.live) × (self.new.free ≡ self.old.free)) }
-        ensures lends { Lends self.old self.new }
-    {
-        nodes::plant::<K>(self.records, i, code, priority, n);
-        store(self.tallies, n.reading, extra);
-        store(self.tallies, n.outer, K::neutral_value());
-        self.mend(n.shrink);
-        let top = self.rise(n.shrink);
-        self.root = top;
+        None
     }
 
     /// Joins a tally to that of the reading with a code.
@@ -184,20 +127,13 @@ impl<'a, K: Tally> Map<'a, K> {
         ensures keeps { Keeps K.Tally.joined K.Tally.neutral (state_of self.old) (state_of self.new) (repeats code extra) result }
         ensures lends { Lends self.old self.new }
     {
-        if self.root == NONE {
+        let Some((leaf, r)) = self.find(code) else {
             return Err(MapFault::Absent);
-        }
-        let leaf = self.descend(code);
-        let r = self.node(leaf);
-        if r.kind != READING {
-            return Err(MapFault::Absent);
-        }
-        if r.code != code {
-            return Err(MapFault::Absent);
-        }
+        };
+        let places = self.places;
         let old = self.entry(leaf);
         store(self.tallies, leaf, old.join(extra));
-        self.climb(r.parent);
+        climb(self.records, self.tallies, places, r.parent);
         Ok(self.live)
     }
 }

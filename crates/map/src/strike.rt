@@ -6,7 +6,8 @@ ghost use Rattle.tables.specs.Stands.{Keeps};
 ghost use Rattle.tables.specs.Removal.{root_above, struck_state, emptied_state};
 
 use crate::Map;
-use records::{FourPlaces, NONE, READING, Sinking};
+use crate::renewal::climb;
+use records::{FourPlaces, NONE, Sinking};
 use tables::MapFault;
 use tally::Tally;
 
@@ -16,14 +17,12 @@ impl<'a, K: Tally> Map<'a, K> {
         ensures { result ≡ root_above self.now.places self.now.records.now from }
     {
         let mut i = from;
-        let mut left = self.places;
-        while left > 0 {
+        for _ in 0..self.places {
             let r = self.node(i);
             if r.parent == NONE {
                 return i;
             }
             i = r.parent;
-            left -= 1;
         }
         i
     }
@@ -33,9 +32,10 @@ impl<'a, K: Tally> Map<'a, K> {
         ensures run { state_of self.new ≡ struck_state K.Tally.joined K.Tally.neutral (state_of self.old) i n }
         ensures lends { Lends self.old self.new }
     {
+        let places = self.places;
         let r = self.node(i);
         let top = self.root_above(i);
-        self.climb(r.parent);
+        climb(self.records, self.tallies, places, r.parent);
         self.root = top;
         self.live = self.live.saturating_sub(1);
         let before = self.free;
@@ -59,17 +59,9 @@ impl<'a, K: Tally> Map<'a, K> {
         ensures keeps { Keeps K.Tally.joined K.Tally.neutral (state_of self.old) (state_of self.new) (strikes code) result }
         ensures lends { Lends self.old self.new }
     {
-        if self.root == NONE {
+        let Some((leaf, r)) = self.find(code) else {
             return Err(MapFault::Absent);
-        }
-        let leaf = self.descend(code);
-        let r = self.node(leaf);
-        if r.kind != READING {
-            return Err(MapFault::Absent);
-        }
-        if r.code != code {
-            return Err(MapFault::Absent);
-        }
+        };
         if r.parent == NONE {
             self.strike_last(leaf);
             return Ok(self.live);
@@ -81,8 +73,7 @@ impl<'a, K: Tally> Map<'a, K> {
                 self.finish_strike(i, places);
                 Ok(self.live)
             }
-            Sinking::On(_) => Err(MapFault::Absent),
-            Sinking::Lost => Err(MapFault::Absent),
+            Sinking::On(_) | Sinking::Lost => Err(MapFault::Absent),
         }
     }
 }

@@ -1,7 +1,7 @@
 -- A tally joined to a live reading: what the map holds then.
-use Rattle.std.proofs.Common.{◌≡◌, ℕ, ◌+◌, ◌≤◌, min, true, false, cond, ◌≢◌, ◌⊎◌, List, length, get_or, set, Ok, Err, sym, refl, ap, ◌∙◌, subst, inl, inr, arith, length-set, get_or-set_other}
+use Rattle.std.proofs.Common.{◌≡◌, ℕ, ◌+◌, ◌≤◌, min, true, false, cond, ◌≢◌, List, length, get_or, set, Ok, Err, sym, refl, ap, ◌∙◌, subst, arith, length-set, get_or-set_other}
 use mathlib.Core.Option.{none, some}
-use Rattle.std.proofs.lemmas.Bool.{eq-eqb, ne_eqb}
+use Rattle.std.proofs.lemmas.Bool.{eq-eqb}
 use Rattle.records.specs.declared.record.Record.{Record}
 use Rattle.records.specs.declared.places.FreePlaces.{FreePlaces}
 use Rattle.tables.specs.declared.fault.MapFault.TheVariants.{Absent}
@@ -10,17 +10,16 @@ use Rattle.quadtreap.specs.Tree.{Reading, Content, reading, box, tree_of, nodes}
 use Rattle.quadtreap.specs.Find.{of_code, lookup}
 use Rattle.quadtreap.specs.Carry.{carry, carry_all, carry_tree, map_carry}
 use Rattle.records.specs.PlacedNodes.{PlacedNodes, leaf_at, unplaced, place_of, one, occurs, LiesIn, record_of, above, plug, NodeFrame}
-use Rattle.records.specs.Writes.{at}
 use Rattle.records.specs.PlacedPairs.{PlacedPairs, placed_leaf, nodes_of, tree_in, RanksStand, PairFrame, put_in_all, node_frames}
-use Rattle.records.specs.Promises.{Descends}
 use Rattle.tables.specs.Calls.{Call, repeats, is_some, present, more, roll}
 use Rattle.tables.specs.Totals.{Has, Totals, climbed}
+use Rattle.tables.specs.Finds.{LeafOf, Lacks}
 use Rattle.tables.specs.Stands.{State, state, Stands, LiesTallied, root_of, in_tree, Serves, Keeps}
 use Rattle.quadtreap.proofs.CarryLaws.{carried}
 use Rattle.records.proofs.FrameLaws.{one_same, differ, occurs_around, LiesAmong, occurs_plug}
 use Rattle.records.proofs.PairLaws.{lies_among, lies_whole, nodes_frames}
 use Rattle.tables.proofs.Climbs.{bears_same, beside, beside_other, Climbs, climbs, way_short}
-use Rattle.tables.proofs.Finds.{none_found, held, held_is, held_tree, held_lain, held_few, found}
+use Rattle.tables.proofs.Finds.{held, held_is, held_tree, held_lain, held_few, found}
 use Rattle.tables.proofs.Carries.{valid_carry, ranked_carry, length_carry, used_carry, heads, heads_few, heads_plug, carry_plug, right_swap, place_of_plug}
 
 module _ {K : Type 0} (join : K → K → K) (e : K) (k : ℕ) (v : K) where
@@ -158,19 +157,8 @@ module _ {K : Type 0} (join : K → K → K) (e : K) (k : ℕ) (v : K) where
         let o : occurs j (nodes_of after) ≡ occurs j new + occurs_around j way = ap (occurs j) new_nodes_of ∙ occurs_plug way new j in
         climbed_up.others j d (omega arith) ∙ get_or-set_other ts i j _ d (differ j i (omega arith))
 
-  -- what the leaf holds is no reading with the code
-  pub other_content : (c : Content K) (p i : ℕ) (C : Box) (q : Record) → q ≡ record_of p (leaf_at i C c) → (q.kind ≢ 0) ⊎ (q.code ≢ k) → of_code k c ≡ none
-  other_content (reading r) p i C q is (inl far) = absurd (far (ap (λ (x : Record). x.kind) is))
-  other_content (reading r) p i C q is (inr far) = ap (λ b. cond b (some r) none) (ne_eqb k r.code (λ z. far (ap (λ (x : Record). x.code) is ∙ sym z)))
-  other_content (box I) p i C q is way = refl
-
-  pub keeps_empty : (s : State K) → s.root ≡ 65535 → Keeps join e s s (repeats k v) (Err Absent)
-  keeps_empty s is cs st = absent s cs st (none_found k join e s _ st is)
-
-  pub keeps_other : (s : State K) (i : ℕ) (q : Record) → s.root ≢ 65535 → Descends K s.records s.root k s.places i → q ≡ at s.records i → (q.kind ≢ 0) ⊎ (q.code ≢ k) → Keeps join e s s (repeats k v) (Err Absent)
-  keeps_other s i q far down is way cs st =
-      let f = found k join e s _ st far i down in
-      absent s cs st (sym f.tells ∙ other_content f.content _ i f.box q (is ∙ f.lies) way)
+  pub keeps_absent : (s : State K) → Lacks join e s k → Keeps join e s s (repeats k v) (Err Absent)
+  keeps_absent s gone cs st = absent s cs st (gone cs st)
 
   module _ (s : State K) (cs : List (Call K)) (st : Stands join e s (roll join s.places cs)) (far : s.root ≢ 65535) (i : ℕ) where
     abbrev rs : List (Reading K)
@@ -197,14 +185,13 @@ module _ {K : Type 0} (join : K → K → K) (e : K) (k : ℕ) (v : K) where
           unchanged = λ h. absurd (mathlib.Core.Bool.false≢true h);
         }
 
-  pub keeps_joined : (s : State K) (i : ℕ) (q : Record) → s.root ≢ 65535 → Descends K s.records s.root k s.places i → q ≡ at s.records i → q.kind ≡ 0 → q.code ≡ k
-      → (m : ℕ) → m ≡ s.live → (s' : State K)
+  pub keeps_joined : (s : State K) (i : ℕ) (q : Record) → LeafOf s k i q → (m : ℕ) → m ≡ s.live → (s' : State K)
       → s' ≡ state s.records (climbed join e s.records s.places q.parent (set s.tallies i (join (get_or s.tallies i e) v))) s.places s.root s.live s.free
       → Keeps join e s s' (repeats k v) (Ok m)
-  keeps_joined s i q far down is kind code m live s' new cs st =
-      let f = found k join e s _ st far i down in
+  keeps_joined s i q l m live s' new cs st =
+      let f = found k join e s _ st l.held i l.leads in
       subst (λ (u : State K). Serves join e s u (repeats k v) cs (Ok m)) (sym new)
-      (joined_by s cs st far i f.content f.path f.box q f.whole (is ∙ f.lies) f.tells kind code m live)
+      (joined_by s cs st l.held i f.content f.path f.box q f.whole (l.lies ∙ f.lies) f.tells l.kind l.code m live)
 
 pub same_state : {K : Type 0} (r r' : List Record) (t t' : List K) (a a' b b' c c' : ℕ) (f f' : FreePlaces) → r ≡ r' → t ≡ t' → a ≡ a' → b ≡ b' → c ≡ c' → f ≡ f' → state r t a b c f ≡ state r' t' a' b' c' f'
 same_state r r' t t' a a' b b' c c' f f' er et ea eb ec ef =

@@ -59,13 +59,13 @@ module _ {K : Type 0} (join : K → K → K) (e : K) where
     pub goes : (n i : ℕ) (ts : List K) → i ≢ 65535 → run (suc n) i ts ≡ run n (at recs i).parent (renewed join e ts i (at recs i).first (at recs i).second)
     goes n i ts far = ap (λ b. cond b ts (run n (at recs i).parent (renewed join e ts i (at recs i).first (at recs i).second))) (ne_eqb i 65535 far)
 
-    -- one turn of the loop: r is what it reads
-    pub turns : (n i j : ℕ) (ts ts' : List K) (r : Record) → 0 < n → i ≢ 65535 → r ≡ at recs i → ts' ≡ renewed join e ts i r.first r.second → j ≡ r.parent → run (n - 1) j ts' ≡ run n i ts
-    turns zero i j ts ts' r some far is new to = absurd (omega arith)
-    turns (suc n) i j ts ts' r some far is new to =
-        let back : suc n - 1 ≡ n = omega arith in
-        ap (λ (m : ℕ). run m j ts') back ∙ ap (λ (m : ℕ). run n m ts') to ∙ ap (λ (l : List K). run n r.parent l) new
-        ∙ ap (λ (v : Record). run n v.parent (renewed join e ts i v.first v.second)) is ∙ sym (goes n i ts far)
+    -- one turn of the loop, with d behind it: r is what it reads
+    pub turns : (n d i j : ℕ) (ts ts' : List K) (r : Record) → d < n → i ≢ 65535 → r ≡ at recs i → ts' ≡ renewed join e ts i r.first r.second → j ≡ r.parent → run (n - (d + 1)) j ts' ≡ run (n - d) i ts
+    turns n d i j ts ts' r some far is new to =
+        let left : n - d ≡ suc (n - (d + 1)) = omega arith in
+        let m : ℕ = n - (d + 1) in
+        ap (λ (p : ℕ). run m p ts') to ∙ ap (λ (l : List K). run m r.parent l) new
+        ∙ ap (λ (v : Record). run m v.parent (renewed join e ts i v.first v.second)) is ∙ sym (goes m i ts far) ∙ ap (λ (k : ℕ). run k i ts) (sym left)
 
     -- a turn at a node whose children bear x and y
     steps_on : (n p a b q : ℕ) (ts : List K) (x y : K) (r : Record) → p < 65535 → at recs p ≡ r → r.first ≡ a → r.second ≡ b → r.parent ≡ q → Has ts a x → Has ts b y

@@ -1,7 +1,7 @@
 -- Entering: what each of its ways serves.
-use Rattle.std.proofs.Common.{◌≡◌, ℕ, suc, ◌+◌, ◌/◌, ◌^◌, ◌<◌, Bool, true, false, cond, ◌&&◌, eqb, leb, ◌≢◌, ◌⊎◌, List, [], length, Ok, Err, sym, refl, ap, ◌∙◌, subst, inl, inr, arith, get_or-set_other}
+use Rattle.std.proofs.Common.{◌≡◌, ℕ, suc, ◌+◌, ◌/◌, ◌^◌, ◌<◌, Bool, true, false, cond, ◌&&◌, eqb, leb, ◌≢◌, List, [], length, set, Ok, Err, sym, refl, ap, ◌∙◌, subst, arith, get_or-set_other}
 use mathlib.Core.Option.{none, some}
-use Rattle.std.proofs.lemmas.Bool.{eq-eqb, eqb-true, eqb-false, leb-false, and_parts, and_cases}
+use Rattle.std.proofs.lemmas.Bool.{eq-eqb, eqb-true, leb-false, and_parts}
 use Rattle.records.specs.declared.record.Record.{Record}
 use Rattle.tables.specs.declared.fault.MapFault.TheVariants.{Taken, Full}
 use Rattle.records.specs.declared.places.FourPlaces.{FourPlaces}
@@ -12,32 +12,25 @@ use Rattle.quadtreap.specs.Rank.{put}
 use Rattle.quadtreap.specs.Find.{of_code, lookup}
 use Rattle.tables.specs.Calls.{Reply, Call, enters, is_some, present, full, reads, next, roll, reply}
 use Rattle.records.specs.PlacedNodes.{leaf_at, record_of}
-use Rattle.records.specs.Writes.{at}
+use Rattle.records.specs.Writes.{at, planted}
 use Rattle.records.specs.Promises.{Descends}
 use Rattle.records.specs.Free.{next as next_free, four_taken, four_left}
-use Rattle.tables.specs.Stands.{State, state, Stands, Serves, Keeps, started, grown_tables}
-use Rattle.tables.specs.Totals.{Tables, tables}
-use Rattle.tables.proofs.Finds.{none_found, found}
-use Rattle.tables.proofs.Agains.{other_content, same_state}
+use Rattle.tables.specs.Stands.{State, state, Stands, Serves, Keeps, started, grown_tables, grown}
+use Rattle.tables.specs.Totals.{Tables, tables, mended, raised}
+use Rattle.tables.proofs.Finds.{none_found, found, lacks_other}
 use Rattle.tables.proofs.Firsts.{no_readings, stands_first, first_below}
 use Rattle.tables.proofs.Enters.{stands_entered, records_past, tallies_past}
 
 module _ {K : Type 0} (join : K → K → K) (e : K) where
-  -- the state after a reading has grown at the leaf at i
-  abbrev pub grown : State K → ℕ → ℕ → ℕ → K → State K
-  grown s i k priority v =
-      let n : FourPlaces = four_taken s.records s.free in
-      let t : Tables K = grown_tables join e s.places s.records s.tallies i k priority v n in
-      state t.records t.tallies s.places t.top (s.live + 1) (four_left s.records s.free)
-
   -- the state in parts, each as the calls on the way answered it
-  pub grown_by : (s : State K) (i k priority : ℕ) (v : K) (recs : List Record) (ts : List K) (N top live : ℕ) (n : FourPlaces) (free : FreePlaces)
-      → tables recs ts top ≡ grown_tables join e s.places s.records s.tallies i k priority v n → n ≡ four_taken s.records s.free
-      → N ≡ s.places → live ≡ s.live + 1 → free ≡ four_left s.records s.free → state recs ts N top live free ≡ grown s i k priority v
-  grown_by s i k priority v recs ts N top live n free run four eN el ef =
+  pub grown_by : (s : State K) (i k priority : ℕ) (v : K) (recs : List Record) (ts : List K) (top : ℕ) (taken : FourPlaces × FreePlaces)
+      → tables recs ts top ≡ grown_tables join e s.places s.records s.tallies i k priority v taken.0 → taken ≡ (four_taken s.records s.free, four_left s.records s.free)
+      → state recs ts s.places top (s.live + 1) taken.1 ≡ grown join e s i k priority v
+  grown_by s i k priority v recs ts top taken run four =
       let all : tables recs ts top ≡ grown_tables join e s.places s.records s.tallies i k priority v (four_taken s.records s.free) =
-      run ∙ ap (λ (x : FourPlaces). grown_tables join e s.places s.records s.tallies i k priority v x) four in
-      same_state _ _ _ _ _ _ _ _ _ _ _ _ (ap (λ (t : Tables K). t.records) all) (ap (λ (t : Tables K). t.tallies) all) eN (ap (λ (t : Tables K). t.top) all) el ef
+      run ∙ ap (λ (x : FourPlaces × FreePlaces). grown_tables join e s.places s.records s.tallies i k priority v x.0) four in
+      ap (λ (t : Tables K). state t.records t.tallies s.places t.top (s.live + 1) taken.1) all
+      ∙ ap (λ (x : FourPlaces × FreePlaces). let t : Tables K = grown_tables join e s.places s.records s.tallies i k priority v (four_taken s.records s.free) in state t.records t.tallies s.places t.top (s.live + 1) x.1) four
 
   -- a call that is refused
   pub refused : (s : State K) (cs : List (Call K)) (c : Call K) (r : Reply) → Stands join e s (roll join s.places cs)
@@ -113,11 +106,6 @@ module _ {K : Type 0} (join : K → K → K) (e : K) where
         ap (λ b. is_some (cond b (some r) none)) (eq-eqb k r.code (sym code ∙ ap (λ (x : Record). x.code) is))
     own_content (box I) p i C q is kind code = let z : ◌≡◌ {A = ℕ} 1 0 = sym (ap (λ (x : Record). x.kind) is) ∙ kind in absurd (omega arith)
 
-    -- a leaf that is not
-    other_leaf : (q : Record) → (eqb q.kind 0 && eqb q.code k) ≡ false → (q.kind ≢ 0) ⊎ (q.code ≢ k)
-    other_leaf q h =
-        elim (and_cases (eqb q.kind 0) (eqb q.code k) h) [ inl a ↦ inl (eqb-false q.kind 0 a) | inr b ↦ inr (eqb-false q.code k b) ]
-
     module _ (s : State K) (i : ℕ) (q : Record) (far : s.root ≢ 65535) (down : Descends K s.records s.root k s.places i) (is : q ≡ at s.records i) where
       pub keeps_taken : (eqb q.kind 0 && eqb q.code k) ≡ true → Keeps join e s s call (Err Taken)
       keeps_taken own cs st =
@@ -126,25 +114,20 @@ module _ {K : Type 0} (join : K → K → K) (e : K) where
           serves_taken s cs st
           (ap is_some (sym f.tells) ∙ own_content f.content _ i f.box q (is ∙ f.lies) (eqb-true q.kind 0 parts.0) (eqb-true q.code k parts.1))
 
-      gone_by : (cs : List (Call K)) → Stands join e s (roll join s.places cs) → (eqb q.kind 0 && eqb q.code k) ≡ false → lookup k (roll join s.places cs) ≡ none
-      gone_by cs st other =
-          let f = found k join e s _ st far i down in
-          sym f.tells ∙ other_content join e k v f.content _ i f.box q (is ∙ f.lies) (other_leaf q other)
-
       pub keeps_full : (eqb q.kind 0 && eqb q.code k) ≡ false → leb ((s.places + 3) / 4) s.live ≡ true → Keeps join e s s call (Err Full)
-      keeps_full other all cs st = serves_full s cs st (ap is_some (gone_by cs st other)) (full_is s _ true st all)
+      keeps_full other all cs st = serves_full s cs st (ap is_some (lacks_other join e s k i q far down is other cs st)) (full_is s _ true st all)
 
       pub keeps_entered : (eqb q.kind 0 && eqb q.code k) ≡ false → leb ((s.places + 3) / 4) s.live ≡ false → k < 2 ^ 32
-          → (m : ℕ) → m ≡ s.live + 1 → (s' : State K) → s' ≡ grown s i k priority v → Keeps join e s s' call (Ok m)
+          → (m : ℕ) → m ≡ s.live + 1 → (s' : State K) → s' ≡ grown join e s i k priority v → Keeps join e s s' call (Ok m)
       keeps_entered other open' small m live s' new cs st =
           let rs : List (Reading K) = roll join s.places cs in
-          let gone : lookup k rs ≡ none = gone_by cs st other in
+          let gone : lookup k rs ≡ none = lacks_other join e s k i q far down is other cs st in
           let few : length rs < (s.places + 3) / 4 = let c = st.count in omega (arith, leb-false ((s.places + 3) / 4) s.live open') in
           let still : full s.places rs ≡ false = full_is s rs false st open' in
           subst (λ (u : State K). Serves join e s u call cs (Ok m)) (sym new)
           record {
             stands =
-                subst (Stands join e (grown s i k priority v)) (sym (accepted_roll s.places rs (ap is_some gone) still))
+                subst (Stands join e (grown join e s i k priority v)) (sym (accepted_roll s.places rs (ap is_some gone) still))
                 (stands_entered join e k priority v s rs st far i down gone small few);
             answer = ap Ok (live ∙ (let c = st.count in let z : s.live + 1 ≡ suc (length rs) = omega arith in z)) ∙ sym (accepted_reply s.places rs (ap is_some gone) still);
             places = refl;
@@ -152,3 +135,12 @@ module _ {K : Type 0} (join : K → K → K) (e : K) where
             tallies_past = tallies_past join e k priority v s rs st far i down gone small few;
             unchanged = λ h. absurd (mathlib.Core.Bool.false≢true h);
           }
+
+-- both tables, as the calls on the way answered them
+pub grown_run : {K : Type 0} (join : K → K → K) (e : K) (N i k priority : ℕ) (v z : K) (recs recs1 : List Record) (ts ts1 ts2 : List K) (n : FourPlaces) (t : Tables K)
+    → recs1 ≡ planted recs i k priority n → ts1 ≡ set ts n.reading v → z ≡ e → ts2 ≡ set ts1 n.outer z → t ≡ raised join e N recs1 (mended join e recs1 n.shrink ts2) n.shrink
+    → t ≡ grown_tables join e N recs ts i k priority v n
+grown_run {K} join e N i k priority v z recs recs1 ts ts1 ts2 n t er e1 ez e2 et =
+    et ∙ ap (λ (l : List Record). raised join e N l (mended join e l n.shrink ts2) n.shrink) er
+    ∙ ap (λ (l : List K). raised join e N (planted recs i k priority n) (mended join e (planted recs i k priority n) n.shrink l) n.shrink)
+    (e2 ∙ ap (λ (x : K). set ts1 n.outer x) ez ∙ ap (λ (l : List K). set l n.outer e) e1)

@@ -1,16 +1,17 @@
 -- The leaf to which a code leads, and what it tells of the live readings.
-use Rattle.std.proofs.Common.{◌≡◌, ℕ, ◌≤◌, Bool, true, false, cond, not, ◌&&◌, ◌≢◌, List, [], ◌∷◌, sym, refl, ap, ◌∙◌, subst, arith}
+use Rattle.std.proofs.Common.{◌≡◌, ℕ, ◌≤◌, Bool, true, false, cond, not, ◌&&◌, eqb, ◌≢◌, ◌⊎◌, List, [], ◌∷◌, sym, refl, ap, ◌∙◌, subst, inl, inr, arith}
 use mathlib.Core.Option.{Option, none, some}
-use Rattle.std.proofs.lemmas.Bool.{and_parts}
+use Rattle.std.proofs.lemmas.Bool.{and_parts, and_cases, ne_eqb, eqb-false}
 use Rattle.records.specs.declared.record.Record.{Record}
 use Rattle.place.specs.Boxes.{Box, holds}
-use Rattle.quadtreap.specs.Tree.{Reading, Content, outer, tree_of, nodes, map_nodes}
+use Rattle.quadtreap.specs.Tree.{Reading, Content, reading, box, outer, tree_of, nodes, map_nodes}
 use Rattle.quadtreap.specs.Enter.{leads_all}
 use Rattle.quadtreap.specs.Find.{content_at, of_code, map_find, lookup}
 use Rattle.records.specs.PlacedNodes.{leaf_at, record_of, above, LiesIn}
 use Rattle.records.specs.Writes.{at}
 use Rattle.records.specs.PlacedPairs.{PlacedPairs, placed_leaf, placed_pair, nodes_of, tree_in, top_place, PairFrame, on_left_at, on_right_at, on_outer_at, put_in_all, frames, node_frames}
 use Rattle.records.specs.Promises.{Descends}
+use Rattle.tables.specs.Finds.{Lacks}
 use Rattle.tables.specs.Stands.{State, Stands, LiesTallied, Lies, map_tree, root_of}
 use Rattle.quadtreap.proofs.FindLaws.{finds}
 use Rattle.records.proofs.FrameLaws.{root_occurs}
@@ -104,3 +105,23 @@ module _ {K : Type 0} (k : ℕ) where
                 ap (of_code k) (sym (content_at_lem way.path (placed_leaf i way.box way.content) way.leads) ∙ ap (λ u. content_at (tree_in u) k) way.whole)
                 ∙ ap (λ u. map_find u k) (sym held_tree) ∙ finds k rs st.valid;
           }
+
+-- what the leaf holds is no reading with the code
+other_content : {K : Type 0} (k : ℕ) (c : Content K) (p i : ℕ) (C : Box) (q : Record) → q ≡ record_of p (leaf_at i C c) → (q.kind ≢ 0) ⊎ (q.code ≢ k) → of_code k c ≡ none
+other_content k (reading r) p i C q is (inl far) = absurd (far (ap (λ (x : Record). x.kind) is))
+other_content k (reading r) p i C q is (inr far) = ap (λ b. cond b (some r) none) (ne_eqb k r.code (λ z. far (ap (λ (x : Record). x.code) is ∙ sym z)))
+other_content k (box I) p i C q is way = refl
+
+-- a leaf that does not hold the reading with the code
+other_leaf : (k : ℕ) (q : Record) → (eqb q.kind 0 && eqb q.code k) ≡ false → (q.kind ≢ 0) ⊎ (q.code ≢ k)
+other_leaf k q h =
+    elim (and_cases (eqb q.kind 0) (eqb q.code k) h) [ inl a ↦ inl (eqb-false q.kind 0 a) | inr b ↦ inr (eqb-false q.code k b) ]
+
+module _ {K : Type 0} (join : K → K → K) (e : K) (s : State K) (k : ℕ) where
+  pub lacks_empty : s.root ≡ 65535 → Lacks join e s k
+  lacks_empty is cs st = none_found k join e s _ st is
+
+  pub lacks_other : (i : ℕ) (q : Record) → s.root ≢ 65535 → Descends K s.records s.root k s.places i → q ≡ at s.records i → (eqb q.kind 0 && eqb q.code k) ≡ false → Lacks join e s k
+  lacks_other i q far down is other cs st =
+      let f = found k join e s _ st far i down in
+      sym f.tells ∙ other_content k f.content _ i f.box q (is ∙ f.lies) (other_leaf k q other)

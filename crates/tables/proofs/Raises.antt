@@ -31,18 +31,17 @@ module _ {K : Type 0} (join : K → K → K) (e : K) where
       let v : Rise = settled_in recs s in
       ap (λ b. cond b (tables recs ts s) (run n v.table (mended_both join e v.table v.top v.low ts) v.top)) (ne_eqb (at recs s).parent 65535 far)
 
-  -- one turn of the loop
-  pub turns : (n : ℕ) (recs recs' : List Record) (ts ts1 ts2 : List K) (s top low : ℕ) (r : Record) → 0 < n → r ≡ at recs s → r.parent ≢ 65535 → recs' ≡ (settled_in recs s).table → top ≡ (settled_in recs s).top → low ≡ (settled_in recs s).low
-      → ts1 ≡ mended join e recs' low ts → ts2 ≡ mended join e recs' top ts1 → run (n - 1) recs' ts2 top ≡ run n recs ts s
-  turns zero recs recs' ts ts1 ts2 s top low r go is far er et el e1 e2 = absurd (omega arith)
-  turns (suc n) recs recs' ts ts1 ts2 s top low r go is far er et el e1 e2 =
-      let back : suc n - 1 ≡ n = omega arith in
-      ap (λ (m : ℕ). run m recs' ts2 top) back
-      ∙ ap (λ (l : List K). run n recs' l top) (e2 ∙ ap (mended join e recs' top) e1)
-      ∙ ap (λ (l : List Record). run n l (mended_both join e l top low ts) top) er
-      ∙ ap (λ (m : ℕ). run n (settled_in recs s).table (mended_both join e (settled_in recs s).table m low ts) m) et
-      ∙ ap (λ (m : ℕ). run n (settled_in recs s).table (mended_both join e (settled_in recs s).table (settled_in recs s).top m ts) (settled_in recs s).top) el
-      ∙ sym (goes n recs ts s (λ z. far (ap (λ (v : Record). v.parent) is ∙ z)))
+  -- one turn of the loop, with d behind it
+  pub turns : (n d : ℕ) (recs recs' : List Record) (ts ts1 ts2 : List K) (s top low : ℕ) (r : Record) → d < n → r ≡ at recs s → r.parent ≢ 65535 → recs' ≡ (settled_in recs s).table → top ≡ (settled_in recs s).top → low ≡ (settled_in recs s).low
+      → ts1 ≡ mended join e recs' low ts → ts2 ≡ mended join e recs' top ts1 → run (n - (d + 1)) recs' ts2 top ≡ run (n - d) recs ts s
+  turns n d recs recs' ts ts1 ts2 s top low r go is far er et el e1 e2 =
+      let left : n - d ≡ suc (n - (d + 1)) = omega arith in
+      let m : ℕ = n - (d + 1) in
+      ap (λ (l : List K). run m recs' l top) (e2 ∙ ap (mended join e recs' top) e1)
+      ∙ ap (λ (l : List Record). run m l (mended_both join e l top low ts) top) er
+      ∙ ap (λ (p : ℕ). run m (settled_in recs s).table (mended_both join e (settled_in recs s).table p low ts) p) et
+      ∙ ap (λ (p : ℕ). run m (settled_in recs s).table (mended_both join e (settled_in recs s).table (settled_in recs s).top p ts) (settled_in recs s).top) el
+      ∙ sym (goes m recs ts s (λ z. far (ap (λ (v : Record). v.parent) is ∙ z))) ∙ ap (λ (k : ℕ). run k recs ts s) (sym left)
 
   root_parent : (p : ℕ) (t : PlacedNodes K) → (record_of p t).parent ≡ p
   root_parent p (leaf_at q C c) = refl

@@ -1,5 +1,5 @@
 -- The way up by the parents, to the root.
-use Rattle.std.proofs.Common.{◌≡◌, ℕ, zero, suc, ◌-◌, ◌<◌, ◌≤◌, cond, ◌≢◌, List, [], ◌∷◌, length, sym, refl, ap, ◌∙◌, inl, inr, arith}
+use Rattle.std.proofs.Common.{◌≡◌, ℕ, zero, suc, ◌+◌, ◌-◌, ◌<◌, ◌≤◌, cond, ◌≢◌, List, [], ◌∷◌, length, sym, refl, ap, ◌∙◌, inl, inr, arith}
 use Rattle.std.proofs.lemmas.Bool.{eq-eqb, ne_eqb, cases_lt}
 use Rattle.records.specs.declared.record.Record.{Record}
 use Rattle.records.specs.PlacedNodes.{PlacedNodes, leaf_at, node_at, place_of, record_of, NodeFrame, first, second, plug, above}
@@ -16,13 +16,13 @@ goes : (recs : List Record) (n i p : ℕ) → (at recs i).parent ≡ p → p < 6
 goes recs n i p is low =
     ap (λ b. cond b i (root_above n recs (at recs i).parent)) (ne_eqb (at recs i).parent 65535 (λ z. omega arith)) ∙ ap (root_above n recs) is
 
--- one turn of the loop: r is what it reads
-pub turns : (recs : List Record) (n i : ℕ) (r : Record) → 0 < n → r ≡ at recs i → r.parent ≢ 65535 → root_above (n - 1) recs r.parent ≡ root_above n recs i
-turns recs zero i r go is far = absurd (omega arith)
-turns recs (suc n) i r go is far =
-    let back : suc n - 1 ≡ n = omega arith in
-    ap (λ (m : ℕ). root_above m recs r.parent) back ∙ ap (λ (v : Record). root_above n recs v.parent) is
-    ∙ sym (ap (λ b. cond b i (root_above n recs (at recs i).parent)) (ne_eqb (at recs i).parent 65535 (λ z. far (ap (λ (v : Record). v.parent) is ∙ z))))
+-- one turn of the loop, with d behind it: r is what it reads
+pub turns : (recs : List Record) (n d i : ℕ) (r : Record) → d < n → r ≡ at recs i → r.parent ≢ 65535 → root_above (n - (d + 1)) recs r.parent ≡ root_above (n - d) recs i
+turns recs n d i r go is far =
+    let left : n - d ≡ suc (n - (d + 1)) = omega arith in
+    ap (λ (v : Record). root_above (n - (d + 1)) recs v.parent) is
+    ∙ sym (ap (λ b. cond b i (root_above (n - (d + 1)) recs (at recs i).parent)) (ne_eqb (at recs i).parent 65535 (λ z. far (ap (λ (v : Record). v.parent) is ∙ z))))
+    ∙ ap (λ (m : ℕ). root_above m recs i) (sym left)
 
 below : (p : ℕ) → (65535 ≤ p → ⊥) → p < 65535
 below p far = elim (cases_lt p 65535) [ inl l ↦ l | inr l ↦ absurd (far l) ]

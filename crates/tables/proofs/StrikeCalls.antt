@@ -1,5 +1,5 @@
 -- The call strike: what it promises, from what it reads and writes.
-use Rattle.std.proofs.Common.{◌≡◌, ℕ, ◌-◌, Bool, true, false, cond, ◌≢◌, ◌⊎◌, List, [], ◌∷◌, length, Ok, Err, sym, refl, ap, ◌∙◌, subst, arith}
+use Rattle.std.proofs.Common.{◌≡◌, ℕ, ◌-◌, Bool, true, false, cond, ◌≢◌, List, [], ◌∷◌, length, Ok, Err, sym, refl, ap, ◌∙◌, subst, arith}
 use mathlib.Core.Option.{none, some}
 use Rattle.std.proofs.lemmas.Bool.{eq-eqb, false≢true}
 use Rattle.records.specs.declared.record.Record.{Record}
@@ -14,16 +14,15 @@ use Rattle.quadtreap.specs.Strike.{is_only}
 use Rattle.quadtreap.specs.Find.{of_code, lookup}
 use Rattle.tables.specs.Calls.{Reply, Call, strikes, is_some, present, roll}
 use Rattle.records.specs.PlacedNodes.{leaf_at, LiesIn, record_of, above}
-use Rattle.records.specs.Writes.{at, Sink, struck_in}
+use Rattle.records.specs.Writes.{Sink, struck_in}
 use Rattle.records.specs.PlacedPairs.{PlacedPairs, placed_leaf, placed_pair, nodes_of, tree_in, PairFrame, on_left_at, on_right_at, on_outer_at, put_in_all, node_frames}
 use Rattle.records.specs.StrikeMoves.{is_leaf_at}
-use Rattle.records.specs.Promises.{Descends}
+use Rattle.tables.specs.Finds.{LeafOf, Lacks}
 use Rattle.tables.specs.Stands.{State, state, Stands, Serves, Keeps}
 use Rattle.tables.specs.Removal.{struck_state, emptied_state}
 use Rattle.records.proofs.FrameLaws.{one_same, LiesAmong}
 use Rattle.records.proofs.PairLaws.{lies_among}
-use Rattle.tables.proofs.Finds.{Found, none_found, held, held_lain, held_top, found}
-use Rattle.tables.proofs.Agains.{other_content}
+use Rattle.tables.proofs.Finds.{Found, held, held_lain, held_top, found}
 use Rattle.tables.proofs.StrikeStates.{without_absent, stands_emptied_state, emptied_state_past, last_live, stands_struck, struck_live, records_past, tallies_past, ends_is, v, i, n, after}
 
 -- what a removal answers
@@ -57,13 +56,8 @@ module _ {K : Type 0} (join : K → K → K) (e : K) (k : ℕ) where
         unchanged = λ h. refl;
       }
 
-  pub keeps_empty : (s : State K) → s.root ≡ 65535 → Keeps join e s s (strikes k) (Err Absent)
-  keeps_empty s is cs st = absent s cs st (none_found k join e s _ st is)
-
-  pub keeps_other : (s : State K) (i : ℕ) (q : Record) → s.root ≢ 65535 → Descends K s.records s.root k s.places i → q ≡ at s.records i → (q.kind ≢ 0) ⊎ (q.code ≢ k) → Keeps join e s s (strikes k) (Err Absent)
-  keeps_other s i q far down is way cs st =
-      let f = found k join e s _ st far i down in
-      absent s cs st (sym f.tells ∙ other_content join e k e f.content _ i f.box q (is ∙ f.lies) way)
+  pub keeps_absent : (s : State K) → Lacks join e s k → Keeps join e s s (strikes k) (Err Absent)
+  keeps_absent s gone cs st = absent s cs st (gone cs st)
 
   -- what the leaf holds is a reading with the code
   this_content : (c : Content K) (p i : ℕ) (C : Box) (q : Record) → q ≡ record_of p (leaf_at i C c) → q.kind ≡ 0 → q.code ≡ k → (r : Reading K) × (c ≡ reading r) × (k ≡ r.code)
@@ -94,23 +88,26 @@ module _ {K : Type 0} (join : K → K → K) (e : K) (k : ℕ) where
   alone recs (on_right_at s w r C i E L O ∷ gs) t h up = let o = one_same w in let z = h.low w (omega arith) in absurd (omega arith)
   alone recs (on_outer_at s w r C i E L R ∷ gs) t h up = let o = one_same s in let z = h.low s (omega arith) in absurd (omega arith)
 
-  module _ (s : State K) (i₀ : ℕ) (q : Record) (far : s.root ≢ 65535) (down : Descends K s.records s.root k s.places i₀) (is : q ≡ at s.records i₀) (kind : q.kind ≡ 0) (code : q.code ≡ k) where
+  module _ (s : State K) (i₀ : ℕ) (q : Record) (l : LeafOf s k i₀ q) where
+    far : s.root ≢ 65535
+    far = l.held
+
     module _ (cs : List (Call K)) (st : Stands join e s (roll join s.places cs)) where
       abbrev rs : List (Reading K)
       rs = roll join s.places cs
 
       f : Found k s rs (held k join e s rs st far) i₀
-      f = found k join e s rs st far i₀ down
+      f = found k join e s rs st far i₀ l.leads
 
       this : (r : Reading K) × (f.content ≡ reading r) × (k ≡ r.code)
-      this = this_content f.content _ i₀ f.box q (is ∙ f.lies) kind code
+      this = this_content f.content _ i₀ f.box q (l.lies ∙ f.lies) l.kind l.code
 
       here : present k rs ≡ true
       here =
           ap is_some (sym f.tells ∙ ap (of_code k) this.1 ∙ ap (λ b. cond b (some this.0) none) (eq-eqb k this.0.code this.2))
 
       parent : q.parent ≡ above (node_frames f.path)
-      parent = ap (λ (x : Record). x.parent) (is ∙ f.lies)
+      parent = ap (λ (x : Record). x.parent) (l.lies ∙ f.lies)
 
       told : (m : ℕ) → m ≡ length (without k rs) → Ok m ≡ cond (present k rs) (Ok (length (without k rs))) (Err Absent)
       told m is' = ap Ok is' ∙ ap (λ b. cond b (Ok (length (without k rs))) (Err Absent)) (sym here)

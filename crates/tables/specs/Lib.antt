@@ -1,6 +1,7 @@
 pub mod Calls
 pub mod Totals
 pub mod Stands
+pub mod Finds
 pub mod Heights
 pub mod Walks
 pub mod Tallies

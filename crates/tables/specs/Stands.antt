@@ -4,7 +4,8 @@
 --   LiesTallied, Lies            a tree that lies in both tables
 --   Stands                       the map holds the readings of a list
 --   Serves, Keeps                what a call promises after some calls, and after any calls
---   grown_tables, started        what a map is after a reading is entered
+--   grown_tables                 both tables after a reading is entered
+--   started, grown               the map after its first reading, and after one more
 use Rattle.std.specs.Prelude.{◌≡◌, ℕ, ◌+◌, ◌<◌, ◌≤◌, min, Bool, true, false, List, ◌∷◌, length, Ok, Err, slice_index_or, slice_set}
 use Rattle.std.proofs.Math.Option.{Option, none, some}
 use Rattle.records.specs.declared.record.Record.{Record}
@@ -16,7 +17,7 @@ use Rattle.tables.specs.Calls.{Reply, Call, roll, reply}
 use Rattle.records.specs.PlacedNodes.{occurs, LiesIn}
 use Rattle.records.specs.Writes.{planted, first_planted}
 use Rattle.records.specs.PlacedPairs.{PlacedPairs, nodes_of, tree_in, top_place, RanksStand}
-use Rattle.records.specs.Free.{next as next_free, left_after, free_at, FreeIn}
+use Rattle.records.specs.Free.{next as next_free, left_after, four_taken, four_left, free_at, FreeIn}
 use Rattle.tables.specs.Totals.{Totals, Tables, mended, raised}
 
 -- What a map is made of: both tables, the number of places, the place of the root, the number live, and the free places.
@@ -105,3 +106,9 @@ abbrev pub started : {K : Type 0} → State K → ℕ → ℕ → K → State K
 started s k priority v =
     let i : ℕ = next_free s.free in
     state (first_planted s.records i k priority) (slice_set s.tallies i v) s.places i 1 (left_after s.records s.free)
+
+-- The state after one more reading: the leaf at i has become a pair at the next four free places.
+abbrev pub grown : {K : Type 0} → (K → K → K) → K → State K → ℕ → ℕ → ℕ → K → State K
+grown {K} join e s i k priority v =
+    let t : Tables K = grown_tables join e s.places s.records s.tallies i k priority v (four_taken s.records s.free) in
+    state t.records t.tallies s.places t.top (s.live + 1) (four_left s.records s.free)

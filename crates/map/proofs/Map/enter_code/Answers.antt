@@ -1,12 +1,10 @@
-use Rattle.std.proofs.Common.{◌≡◌, ℕ, ◌+◌, Ok, sym, refl, ap, ◌∙◌, arith}
+use Rattle.std.proofs.Common.{Ok, sym, refl, ap, ◌∙◌, arith}
 use mathlib.Core.Path.{subst⁻¹}
-use Rattle.records.specs.declared.places.FourPlaces.{FourPlaces}
-use Rattle.records.specs.declared.places.FreePlaces.{FreePlaces}
 use Rattle.map.proofs.Map.enter_code.Goals as goal
 use Rattle.map.specs.Maps.{state_of}
 use Rattle.tables.specs.Calls.{enters}
 use Rattle.tables.specs.Stands.{State, Keeps}
-use Rattle.tables.proofs.EnterCalls.{keeps_full_empty, keeps_first, keeps_taken, keeps_full, keeps_entered, grown_by}
+use Rattle.tables.proofs.EnterCalls.{keeps_full_empty, keeps_first, keeps_taken, keeps_full, keeps_entered}
 
 pub returns-then-is_full : goal.returns-then-is_full
 returns-then-is_full g c =
@@ -46,15 +44,10 @@ returns-then-is_full-2 g c =
 
 pub returns : goal.returns
 returns g c =
-    let taken = c.four_free.ensures.value in
-    let grow = c.grow.ensures in
-    let one_more : c.grow.new.self.live + 1 ≡ c.args.self.now.live + 1 = ap (λ (x : ℕ). x + 1) grow.rest.1.0 in
     record {
       keeps =
           keeps_entered g.K.Tally.joined g.K.Tally.neutral c.args.code c.args.priority c.args.extra _ c.descend-leaf.result c.node-record.result c.if-self.false
           c.descend-leaf.ensures c.node-record.ensures (sym c.is_reading.ensures.value ∙ c.if-is_reading.false) (sym c.is_full-2.ensures.value ∙ c.if-is_full-2.false) (omega arith)
-          _ one_more _
-          (grown_by g.K.Tally.joined g.K.Tally.neutral (state_of c.args.self.now) c.descend-leaf.result c.args.code c.args.priority c.args.extra _ _ _ _ _ _ _
-          grow.run (ap (λ (p : FourPlaces × FreePlaces). p.0) taken) grow.rest.0 one_more (ap (λ (p : FourPlaces × FreePlaces). p.1) taken));
-      lends = grow.lends;
+          _ (ap (λ (s : State g.row.K.Denot). s.live) c.grow.ensures.run) _ c.grow.ensures.run;
+      lends = c.grow.ensures.lends;
     }

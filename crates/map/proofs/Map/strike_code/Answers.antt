@@ -1,45 +1,26 @@
 use Rattle.std.proofs.Common.{refl, ap, inl, inr}
-use Rattle.records.specs.declared.places.Sinking.TheVariants.{Lost}
 use Rattle.map.proofs.Map.strike_code.Goals as goal
 use Rattle.tables.specs.Stands.{State}
-use Rattle.tables.proofs.StrikeCalls.{keeps_empty, keeps_other, keeps_last, keeps_struck, keeps_never}
+use Rattle.tables.proofs.StrikeCalls.{is_done, keeps_absent, keeps_last, keeps_struck, keeps_never}
 
-pub returns-then-self : goal.returns-then-self
-returns-then-self g c = record { keeps = keeps_empty g.K.Tally.joined g.K.Tally.neutral c.args.code _ c.if-self.true; lends = (refl, refl) }
+pub returns-in_default-clause-keeps : goal.returns-in_default-clause-keeps
+returns-in_default-clause-keeps g c = keeps_absent g.K.Tally.joined g.K.Tally.neutral c.args.code _ c.in_default.ensures.value
 
-pub returns-then-r-ne-READING : goal.returns-then-r-ne-READING
-returns-then-r-ne-READING g c = record {
-  keeps = keeps_other g.K.Tally.joined g.K.Tally.neutral c.args.code _ c.descend-leaf.result c.node-r.result c.if-self.false c.descend-leaf.ensures c.node-r.ensures (inl c.if-r-ne-READING.true);
-  lends = (refl, refl);
-}
+pub returns-then-r-clause-keeps : goal.returns-then-r-clause-keeps
+returns-then-r-clause-keeps g c =
+    keeps_last g.K.Tally.joined g.K.Tally.neutral c.args.code _ c.in-Some.leaf c.in-Some.r c.in-Some.ensures.value
+    c.if-r.true _ (ap (λ (s : State g.row.K.Denot). s.live) c.strike_last.ensures.run) _ c.strike_last.ensures.run
 
-pub returns-then-r-code : goal.returns-then-r-code
-returns-then-r-code g c = record {
-  keeps = keeps_other g.K.Tally.joined g.K.Tally.neutral c.args.code _ c.descend-leaf.result c.node-r.result c.if-self.false c.descend-leaf.ensures c.node-r.ensures (inr c.if-r-code.true);
-  lends = (refl, refl);
-}
+pub returns-in-Done-clause-keeps : goal.returns-in-Done-clause-keeps
+returns-in-Done-clause-keeps g c =
+    keeps_struck g.K.Tally.joined g.K.Tally.neutral c.args.code _ c.in-Some.leaf c.in-Some.r c.in-Some.ensures.value
+    c.if-r.false c.strike.new.records c.in-Done.i c.in-Done.places c.in-Done.ensures.table c.in-Done.ensures.ends
+    _ (ap (λ (s : State g.row.K.Denot). s.live) c.finish_strike.ensures.run) _ c.finish_strike.ensures.run
 
-pub returns-then-r : goal.returns-then-r
-returns-then-r g c = record {
+pub returns-in-On : goal.returns-in-On
+returns-in-On g c = record {
   keeps =
-      keeps_last g.K.Tally.joined g.K.Tally.neutral c.args.code _ c.descend-leaf.result c.node-r.result c.if-self.false c.descend-leaf.ensures c.node-r.ensures c.if-r-ne-READING.false c.if-r-code.false
-      c.if-r.true _ (ap (λ (s : State g.row.K.Denot). s.live) c.strike_last.ensures.run) _ c.strike_last.ensures.run;
-  lends = c.strike_last.ensures.lends;
-}
-
-pub returns-in-Done : goal.returns-in-Done
-returns-in-Done g c = record {
-  keeps =
-      keeps_struck g.K.Tally.joined g.K.Tally.neutral c.args.code _ c.descend-leaf.result c.node-r.result c.if-self.false c.descend-leaf.ensures c.node-r.ensures c.if-r-ne-READING.false c.if-r-code.false
-      c.if-r.false c.strike.new.records c.in-Done.i c.in-Done.places c.in-Done.ensures.table c.in-Done.ensures.ends
-      _ (ap (λ (s : State g.row.K.Denot). s.live) c.finish_strike.ensures.run) _ c.finish_strike.ensures.run;
-  lends = c.finish_strike.ensures.lends;
-}
-
-pub returns-in-Lost : goal.returns-in-Lost
-returns-in-Lost g c = record {
-  keeps =
-      keeps_never g.K.Tally.joined g.K.Tally.neutral c.args.code _ c.descend-leaf.result c.node-r.result c.if-self.false c.descend-leaf.ensures c.node-r.ensures c.if-r-ne-READING.false c.if-r-code.false
-      c.if-r.false Lost c.in-Lost.ensures.ends refl _ _;
+      keeps_never g.K.Tally.joined g.K.Tally.neutral c.args.code _ c.in-Some.leaf c.in-Some.r c.in-Some.ensures.value
+      c.if-r.false c.strike.result c.strike.ensures.ends (elim c.in-On.is [ inl p ↦ ap is_done p.1 | inr q ↦ ap is_done q ]) _ _;
   lends = (refl, refl);
 }
