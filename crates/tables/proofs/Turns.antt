@@ -1,5 +1,5 @@
 -- What the turns of a walk come to at a tree that lies in the tables.
-use Rattle.std.proofs.Common.{◌≡◌, ℕ, suc, ◌+◌, ◌-◌, ◌*◌, ◌<◌, ◌≤◌, Bool, true, false, cond, eqb, ◌≢◌, List, [], ◌∷◌, get_or, sym, refl, ap, ◌∙◌, inl, inr, arith}
+use Rattle.std.proofs.Common.{◌≡◌, ℕ, suc, ◌+◌, ◌-◌, ◌*◌, ◌<◌, ◌≤◌, Bool, true, false, cond, ◌≢◌, List, [], ◌∷◌, get_or, add-one, sym, refl, ap, ◌∙◌, inl, inr, arith}
 use mathlib.Core.Option.{Option}
 use Rattle.std.proofs.lemmas.Bool.{cases_Bool, eq-eqb, ne_eqb}
 use Rattle.records.specs.declared.record.Record.{Record}
@@ -14,9 +14,9 @@ use Rattle.quadtreap.specs.Tree.{Content, reading, box, Tree, leaf, shrink, spli
 use Rattle.quadtreap.specs.Rank.{Rank}
 use Rattle.quadtreap.specs.Walk.{Tests, Joins, Answer, answer, tally_of, taken, walk, visit, Visits}
 use Rattle.records.specs.PlacedNodes.{Kind, shrinks, splits, PlacedNodes, leaf_at, node_at, unplaced, grown, place_of, occurs, record_of, NodesRecorded}
-use Rattle.records.specs.Writes.{at, box_of}
+use Rattle.records.specs.Writes.{at}
 use Rattle.tables.specs.Totals.{Totals}
-use Rattle.tables.specs.Walks.{crossed, seen, arrived, returned, ran}
+use Rattle.tables.specs.Walks.{crossed, arrived, ran}
 use Rattle.quadtreap.proofs.VisitLaws.{step_by_step}
 use Rattle.tables.proofs.Runs.{stops}
 use Rattle.records.proofs.FrameLaws.{differ, root_le, root_occurs, root_lies, root_outer}
@@ -40,31 +40,15 @@ module _ {K : Type 0} (join : K → K → K) (e : K) (q : Tests) (laws : Joins j
   abbrev pub after : Answer K → Tree K → Answer K
   after x t = visit join e q x (t ∷ [])
 
-  -- a turn down at a node with the record r and the entry k
-  comes : (n i : ℕ) (r : Record) (k : K) (x : Answer K) → at recs i ≡ r → get_or ts i e ≡ k → go (suc n) (spot (Down i) x) ≡ go n (arrived join i r k (tallied x) (seen q r))
-  comes n i r k x is has =
-      ap (λ (v : Record). go n (arrived join i v (get_or ts i e) (tallied x) (seen q v))) is ∙ ap (λ (v : K). go n (arrived join i r v (tallied x) (seen q r))) has
-
-  -- a turn back from a node whose parent is at p
-  backs : (n i p : ℕ) (x : Answer K) → (at recs i).parent ≡ p → go (suc n) (spot (Back i) x) ≡ go n (spot (returned recs p i) x)
-  backs n i p x is = ap (λ (v : ℕ). go n (spot (returned recs v i) x)) is
-
   -- from the first child to the second, from the second to the parent, and from the root to the end
   pub to_second : (n i p j : ℕ) (x : Answer K) → p ≢ 65535 → (at recs i).parent ≡ p → (at recs p).first ≡ i → (at recs p).second ≡ j → go (suc n) (spot (Back i) x) ≡ go n (spot (Down j) x)
-  to_second n i p j x far up is to =
-      backs n i p x up
-      ∙ ap (λ b. go n (spot (cond b Finished (cond (eqb (at recs p).first i) (Down (at recs p).second) (Back p))) x)) (ne_eqb p 65535 far)
-      ∙ ap (λ b. go n (spot (cond b (Down (at recs p).second) (Back p)) x)) (eq-eqb (at recs p).first i is)
-      ∙ ap (λ (v : ℕ). go n (spot (Down v) x)) to
+  to_second n i p j x far up is to = rw (up, ne_eqb p 65535 far, eq-eqb (at recs p).first i is, to)
 
   pub to_parent : (n i p : ℕ) (x : Answer K) → p ≢ 65535 → (at recs i).parent ≡ p → (at recs p).first ≢ i → go (suc n) (spot (Back i) x) ≡ go n (spot (Back p) x)
-  to_parent n i p x far up other =
-      backs n i p x up
-      ∙ ap (λ b. go n (spot (cond b Finished (cond (eqb (at recs p).first i) (Down (at recs p).second) (Back p))) x)) (ne_eqb p 65535 far)
-      ∙ ap (λ b. go n (spot (cond b (Down (at recs p).second) (Back p)) x)) (ne_eqb (at recs p).first i other)
+  to_parent n i p x far up other = rw (up, ne_eqb p 65535 far, ne_eqb (at recs p).first i other)
 
   pub to_end : (n i : ℕ) (x : Answer K) → (at recs i).parent ≡ 65535 → go (suc n) (spot (Back i) x) ≡ tallied x
-  to_end n i x up = backs n i 65535 x up ∙ stops join e q recs ts n (spot Finished x) refl
+  to_end n i x up = rw up (stops join e q recs ts n (spot Finished x) refl)
 
   -- the record and the entry of a tree's root
   root_bears : (t : PlacedNodes K) → Totals join e ts t → get_or ts (place_of t) e ≡ tally_of join e (unplaced t)
@@ -94,12 +78,7 @@ module _ {K : Type 0} (join : K → K → K) (e : K) (q : Tests) (laws : Joins j
 
   lands : (p : ℕ) (t : PlacedNodes K) (x : Answer K) (m d : Bool) → Laid p t → q.misses (outer (unplaced t)) ≡ m → q.held (outer (unplaced t)) ≡ d
       → (n : ℕ) → go (suc n) (spot (Down (place_of t)) x) ≡ go n (arrived join (place_of t) (record_of p t) (tally_of join e (unplaced t)) (tallied x) (chosen m d (record_of p t)))
-  lands p t x m d h em ed n =
-      let k : K = tally_of join e (unplaced t) in
-      let r : Record = record_of p t in
-      comes n (place_of t) r k x (root_lies recs p t h.laid).reads (root_bears t h.totals)
-      ∙ ap (λ b. go n (arrived join (place_of t) r k (tallied x) (chosen b (q.held (box_of r.outer)) r))) (ap (λ c. q.misses (box_of c)) (root_outer p t) ∙ em)
-      ∙ ap (λ b. go n (arrived join (place_of t) r k (tallied x) (chosen m b r))) (ap (λ c. q.held (box_of c)) (root_outer p t) ∙ ed)
+  lands p t x m d h em ed n = rw ((root_lies recs p t h.laid).reads, root_bears t h.totals, root_outer p t, em, ed)
 
   -- The walk passes over the tree t: some turns after it has come down to t with the answer x so far, it is done with t and has its answer.
   pub record Passes (t : PlacedNodes K) (x : Answer K) : Type 0 where
@@ -112,21 +91,19 @@ module _ {K : Type 0} (join : K → K → K) (e : K) (q : Tests) (laws : Joins j
   some_nodes (shrink C i a b) = omega arith
   some_nodes (split C i a b) = omega arith
 
-  at_once : (t : PlacedNodes K) (x : Answer K) → ((n : ℕ) → go (suc n) (spot (Down (place_of t)) x) ≡ go n (spot (Back (place_of t)) (after x (unplaced t)))) → Passes t x
-  at_once t x f =
+  at_once : (t : PlacedNodes K) (x y : Answer K) → after x (unplaced t) ≡ y → ((n : ℕ) → go (suc n) (spot (Down (place_of t)) x) ≡ go n (spot (Back (place_of t)) y)) → Passes t x
+  at_once t x y is f =
       record {
         turns = 1;
         few = (let s = some_nodes (unplaced t) in omega arith);
-        run = λ n. let c : 1 + n ≡ suc n = omega arith in ap (λ (m : ℕ). go m (spot (Down (place_of t)) x)) c ∙ f n;
+        run = λ n. let c : 1 + n ≡ suc n = omega arith in rw (c, f n) (ap (λ (z : Answer K). go n (spot (Back (place_of t)) z)) (sym is));
       }
 
   pub missed : (p : ℕ) (t : PlacedNodes K) (x : Answer K) → Laid p t → q.misses (outer (unplaced t)) ≡ true → Passes t x
-  missed p t x h em =
-      at_once t x (λ n. lands p t x true (q.held (outer (unplaced t))) h em refl n ∙ ap (λ (y : Answer K). go n (spot (Back (place_of t)) y)) (sym (visits.misses x (unplaced t) [] em)))
+  missed p t x h em = at_once t x x (visits.misses x (unplaced t) [] em) (lands p t x true (q.held (outer (unplaced t))) h em refl)
 
   pub kept_whole : (p : ℕ) (t : PlacedNodes K) (x : Answer K) → Laid p t → q.misses (outer (unplaced t)) ≡ false → q.held (outer (unplaced t)) ≡ true → Passes t x
-  kept_whole p t x h em ed =
-      at_once t x (λ n. lands p t x false true h em ed n ∙ ap (λ (y : Answer K). go n (spot (Back (place_of t)) y)) (sym (visits.held x (unplaced t) [] em ed)))
+  kept_whole p t x h em ed = at_once t x _ (visits.held x (unplaced t) [] em ed) (lands p t x false true h em ed)
 
   neutral_after : (a : K) → join a e ≡ a
   neutral_after a = laws.comm a e ∙ laws.neutral a
@@ -143,29 +120,22 @@ module _ {K : Type 0} (join : K → K → K) (e : K) (q : Tests) (laws : Joins j
   leaf_takes p i C (box I) x = ap (λ (k : K). spot (Back i) (answer k x.expanded)) (sym (neutral_after x.tally))
 
   pub leaf_crosses : (p i : ℕ) (C : Box) (c : Content K) (x : Answer K) → Laid p (leaf_at i C c) → q.misses C ≡ false → q.held C ≡ false → Passes (leaf_at i C c) x
-  leaf_crosses p i C c x h em ed =
-      at_once (leaf_at i C c) x (λ n.
-      lands p (leaf_at i C c) x false false h em ed n ∙ ap (go n) (leaf_takes p i C c x)
-      ∙ ap (λ (y : Answer K). go n (spot (Back i) y)) (sym (visits.leaves x C c [] em ed)))
+  leaf_crosses p i C c x h em ed = at_once (leaf_at i C c) x _ (visits.leaves x C c [] em ed) (λ n. lands p (leaf_at i C c) x false false h em ed n ∙ ap (go n) (leaf_takes p i C c x))
 
   -- a node with two children, of either kind
-  fork_outer : (k : Kind) (C : Box) (g : Option Box) (u v : Tree K) → outer (grown k C g u v) ≡ C
-  fork_outer shrinks C g u v = refl
-  fork_outer splits C g u v = refl
-
   fork_nodes : (k : Kind) (C : Box) (g : Option Box) (u v : Tree K) → nodes (grown k C g u v) ≡ suc (nodes u + nodes v)
   fork_nodes shrinks C g u v = refl
   fork_nodes splits C g u v = refl
 
-  fork_after : (k : Kind) (C : Box) (g : Option Box) (u v : Tree K) (x : Answer K) → q.misses C ≡ false → q.held C ≡ false
+  fork_after : (k : Kind) (C : Box) (g : Option Box) (u v : Tree K) (x : Answer K) → q.misses (outer (grown k C g u v)) ≡ false → q.held (outer (grown k C g u v)) ≡ false
       → after x (grown k C g u v) ≡ after (after (answer x.tally (suc x.expanded)) u) v
   fork_after shrinks C g u v x em ed = visits.shrinks x C g u v [] em ed
   fork_after splits C g u v x em ed = visits.splits x C g u v [] em ed
 
   fork_opens : (p : ℕ) (k : Kind) (i : ℕ) (r : Rank) (C : Box) (g : Option Box) (a b : PlacedNodes K) (x : Answer K) (v : K)
       → arrived join i (record_of p (node_at k i r C g a b)) v (tallied x) (crossed q (record_of p (node_at k i r C g a b))) ≡ spot (Down (place_of a)) (answer x.tally (suc x.expanded))
-  fork_opens p shrinks i r C g a b x v = let c : x.expanded + 1 ≡ suc x.expanded = omega arith in ap (λ (m : ℕ). spot (Down (place_of a)) (answer x.tally m)) c
-  fork_opens p splits i r C g a b x v = let c : x.expanded + 1 ≡ suc x.expanded = omega arith in ap (λ (m : ℕ). spot (Down (place_of a)) (answer x.tally m)) c
+  fork_opens p shrinks i r C g a b x v = rw add-one
+  fork_opens p splits i r C g a b x v = rw add-one
 
   first_laid : (p : ℕ) (k : Kind) (i : ℕ) (r : Rank) (C : Box) (g : Option Box) (a b : PlacedNodes K) → Laid p (node_at k i r C g a b) → Laid i a
   first_laid p k i r C g a b h = record { laid = h.laid.1; totals = h.totals.1; once = λ j. let o = h.once j in omega arith; low = λ j past. let o = h.low j past in omega arith }
@@ -182,11 +152,10 @@ module _ {K : Type 0} (join : K → K → K) (e : K) (q : Tests) (laws : Joins j
       differ (place_of a) (place_of b) (omega arith)
 
   pub fork_crosses : (p : ℕ) (k : Kind) (i : ℕ) (r : Rank) (C : Box) (g : Option Box) (a b : PlacedNodes K) (x : Answer K) → Laid p (node_at k i r C g a b)
-      → q.misses C ≡ false → q.held C ≡ false → Passes a (answer x.tally (suc x.expanded)) → Passes b (after (answer x.tally (suc x.expanded)) (unplaced a))
+      → q.misses (outer (unplaced (node_at k i r C g a b))) ≡ false → q.held (outer (unplaced (node_at k i r C g a b))) ≡ false → Passes a (answer x.tally (suc x.expanded)) → Passes b (after (answer x.tally (suc x.expanded)) (unplaced a))
       → Passes (node_at k i r C g a b) x
   fork_crosses p k i r C g a b x h em ed pa pb =
       let t : PlacedNodes K = node_at k i r C g a b in
-      let out = fork_outer k C g (unplaced a) (unplaced b) in
       let size = fork_nodes k C g (unplaced a) (unplaced b) in
       let ha = first_laid p k i r C g a b h in
       let hb = second_laid p k i r C g a b h in
@@ -199,34 +168,33 @@ module _ {K : Type 0} (join : K → K → K) (e : K) (q : Tests) (laws : Joins j
         few = (let u = pa.few in let v = pb.few in omega arith);
         run = λ n.
             let c : suc (pa.turns + suc (pb.turns + 1)) + n ≡ suc (pa.turns + suc (pb.turns + suc n)) = omega arith in
-            ap (λ (m : ℕ). go m (spot (Down i) x)) c
-            ∙ lands p t x false false h (ap q.misses out ∙ em) (ap q.held out ∙ ed) (pa.turns + suc (pb.turns + suc n))
-            ∙ ap (go (pa.turns + suc (pb.turns + suc n))) (fork_opens p k i r C g a b x (tally_of join e (unplaced t)))
-            ∙ pa.run (suc (pb.turns + suc n))
-            ∙ to_second (pb.turns + suc n) (place_of a) i (place_of b) x2 (far p t h) (reads_parent i a ha) (ap (λ (v : Record). v.first) here) (ap (λ (v : Record). v.second) here)
-            ∙ pb.run (suc n)
-            ∙ to_parent n (place_of b) i x3 (far p t h) (reads_parent i b hb) (λ is. apart p k i r C g a b h (sym (ap (λ (v : Record). v.first) here) ∙ is))
-            ∙ ap (λ (y : Answer K). go n (spot (Back i) y)) (sym (fork_after k C g (unplaced a) (unplaced b) x em ed));
+            rw (
+              c,
+              lands p t x false false h em ed (pa.turns + suc (pb.turns + suc n)),
+              fork_opens p k i r C g a b x (tally_of join e (unplaced t)),
+              pa.run (suc (pb.turns + suc n)),
+              to_second (pb.turns + suc n) (place_of a) i (place_of b) x2 (far p t h) (reads_parent i a ha) (ap (λ (v : Record). v.first) here) (ap (λ (v : Record). v.second) here),
+              pb.run (suc n),
+              to_parent n (place_of b) i x3 (far p t h) (reads_parent i b hb) (λ is. apart p k i r C g a b h (sym (ap (λ (v : Record). v.first) here) ∙ is)),
+            )
+            (ap (λ (y : Answer K). go n (spot (Back i) y)) (sym (fork_after k C g (unplaced a) (unplaced b) x em ed)));
       }
+
+  -- a tree is passed over where it is if its box crosses
+  if_crossed : (p : ℕ) (t : PlacedNodes K) (x : Answer K) → Laid p t → (q.misses (outer (unplaced t)) ≡ false → q.held (outer (unplaced t)) ≡ false → Passes t x) → Passes t x
+  if_crossed p t x h crosses =
+      elim (cases_Bool (q.misses (outer (unplaced t)))) [
+        | inl em ↦ missed p t x h em
+        | inr em ↦ elim (cases_Bool (q.held (outer (unplaced t)))) [ inl ed ↦ kept_whole p t x h em ed | inr ed ↦ crosses em ed ]
+      ]
 
   -- every tree that lies in the tables is passed over
   pub passes : (p : ℕ) (t : PlacedNodes K) (x : Answer K) → Laid p t → Passes t x
-  passes p (leaf_at i C c) x h =
-      elim (cases_Bool (q.misses C)) [
-        | inl em ↦ missed p (leaf_at i C c) x h em
-        | inr em ↦ elim (cases_Bool (q.held C)) [ inl ed ↦ kept_whole p (leaf_at i C c) x h em ed | inr ed ↦ leaf_crosses p i C c x h em ed ]
-      ]
+  passes p (leaf_at i C c) x h = if_crossed p (leaf_at i C c) x h (leaf_crosses p i C c x h)
   passes p (node_at k i r C g a b) x h =
-      let out = fork_outer k C g (unplaced a) (unplaced b) in
       let pa = passes i a (answer x.tally (suc x.expanded)) (first_laid p k i r C g a b h) in
       let pb = passes i b (after (answer x.tally (suc x.expanded)) (unplaced a)) (second_laid p k i r C g a b h) in
-      elim (cases_Bool (q.misses C)) [
-        | inl em ↦ missed p (node_at k i r C g a b) x h (ap q.misses out ∙ em)
-        | inr em ↦ elim (cases_Bool (q.held C)) [
-          | inl ed ↦ kept_whole p (node_at k i r C g a b) x h (ap q.misses out ∙ em) (ap q.held out ∙ ed)
-          | inr ed ↦ fork_crosses p k i r C g a b x h em ed pa pb
-        ]
-      ]
+      if_crossed p (node_at k i r C g a b) x h (λ em ed. fork_crosses p k i r C g a b x h em ed pa pb)
 
   split_turns : (m n : ℕ) → m < n → (j : ℕ) × (n ≡ m + suc j)
   split_turns m n less = (n - suc m, omega arith)
@@ -236,6 +204,4 @@ module _ {K : Type 0} (join : K → K → K) (e : K) (q : Tests) (laws : Joins j
   whole_walk t n h enough =
       let w = passes 65535 t (answer e 0) h in
       let z = split_turns w.turns n (let f = w.few in omega arith) in
-      ap (λ (m : ℕ). go m (spot (Down (place_of t)) (answer e 0))) z.1 ∙ w.run (suc z.0)
-      ∙ to_end z.0 (place_of t) (after (answer e 0) (unplaced t)) (reads_parent 65535 t h)
-      ∙ ap tallied (visits.start (unplaced t))
+      rw (z.1, w.run (suc z.0), to_end z.0 (place_of t) (after (answer e 0) (unplaced t)) (reads_parent 65535 t h)) (ap tallied (visits.start (unplaced t)))

@@ -1,7 +1,6 @@
 -- The tally of a shape is what the tree of the live readings answers.
-use Rattle.std.proofs.Common.{◌≡◌, ℕ, cond, ◌*◌, ◌≤◌, ◌≢◌, List, sym, refl, ap, ◌∙◌, subst, inl, inr, arith}
+use Rattle.std.proofs.Common.{◌≡◌, ℕ, ◌*◌, ◌≤◌, ◌≢◌, List, sym, refl, ap, ◌∙◌, subst, inl, inr, arith}
 use Rattle.std.proofs.lemmas.Bool.{cases_eq, ne_eqb}
-use Rattle.tables.specs.declared.walk.Position.TheVariants.{Down, Finished}
 use Rattle.tables.specs.declared.walk.Tallied.{Tallied}
 use Rattle.crossing.specs.Regions.{Places, crossings}
 use Rattle.quadtreap.specs.Tree.{Reading, tree_of, nodes, map_height}
@@ -32,8 +31,7 @@ module _ {K : Type 0} (join : K → K → K) (e : K) (laws : Joins join e) (s : 
   module _ (rs : List (Reading K)) (st : Stands join e s rs) (q : Tests) where
     found_empty : s.root ≡ 65535 → found (run q) ≡ map_walk join e q (tree_of rs)
     found_empty is =
-        ap (λ (i : ℕ). found (ran join e q s.records s.tallies (s.places * 2) (starts i e))) is ∙ ap found (stops join e q s.records s.tallies (s.places * 2) (starts 65535 e) refl)
-        ∙ ap (map_walk join e q) (sym (ap map_tree (none_of 0 join e s.records s.tallies s.root st.placed st.lies st.top is)) ∙ st.tree)
+        rw (is, stops join e q s.records s.tallies (s.places * 2) (starts 65535 e) refl) (ap (map_walk join e q) (sym (ap map_tree (none_of 0 join e s.records s.tallies s.root st.placed st.lies st.top is)) ∙ st.tree))
 
     found_held : s.root ≢ 65535 → found (run q) ≡ map_walk join e q (tree_of rs)
     found_held some =
@@ -41,10 +39,12 @@ module _ {K : Type 0} (join : K → K → K) (e : K) (laws : Joins join e) (s : 
         let lain : LiesTallied join e s.records s.tallies t = held_lain 0 join e s rs st some in
         let laid : Laid join e q laws s.records s.tallies 65535 (nodes_of t) = record { laid = lain.kept.laid; totals = lain.totals; once = lain.kept.once; low = lain.kept.low } in
         let few : 2 * nodes (tree_in t) ≤ s.places * 2 = (let f = held_few 0 join e s rs st some in omega arith) in
-        ap (λ (i : ℕ). found (ran join e q s.records s.tallies (s.places * 2) (starts i e))) (held_top 0 join e s rs st some)
-        ∙ ap (λ b. found (ran join e q s.records s.tallies (s.places * 2) (record { position = cond b Finished (Down (place_of (nodes_of t))); found = record { tally = e; expanded = 0 } }))) (ne_eqb (place_of (nodes_of t)) 65535 (far join e q laws s.records s.tallies 65535 (nodes_of t) laid))
-        ∙ ap found (whole_walk join e q laws s.records s.tallies (nodes_of t) (s.places * 2) laid few)
-        ∙ ap (map_walk join e q) (sym (held_tree 0 join e s rs st some))
+        rw (
+          held_top 0 join e s rs st some,
+          ne_eqb (place_of (nodes_of t)) 65535 (far join e q laws s.records s.tallies 65535 (nodes_of t) laid),
+          whole_walk join e q laws s.records s.tallies (nodes_of t) (s.places * 2) laid few,
+        )
+        (ap (map_walk join e q) (sym (held_tree 0 join e s rs st some)))
 
     pub found_walk : found (run q) ≡ map_walk join e q (tree_of rs)
     found_walk = elim (cases_eq s.root 65535) [ inl is ↦ found_empty is | inr some ↦ found_held some ]
