@@ -1,19 +1,21 @@
 //! Entering a reading.
 ghost use Rattle.std.specs.Prelude.{◌≡◌, ◌+◌, ◌/◌, ◌&&◌, nat_eq, nat_le};
 ghost use Rattle.map.specs.Maps.{state_of, Lends};
+ghost use Rattle.records.specs.Kinds.{is_reading as is_reading_kind};
 ghost use Rattle.tables.specs.Calls.{enters};
 ghost use Rattle.tables.specs.Stands.{Keeps, started};
 
 use crate::{Map, store};
-use records::{BoxNumbers, NONE, READING, Record};
+use quadtreap::Rank;
+use records::{BoxNumbers, Kind, NONE, Record};
 use tables::MapFault;
 use tally::Tally;
 
 /// Whether a record is the leaf of the reading with a code.
 fn is_reading(record: Record, code: u32) -> bool
-    ensures value { result ≡ (nat_eq «record».kind 0 && nat_eq «record».code code) }
+    ensures value { result ≡ (is_reading_kind «record».kind && nat_eq «record».rank.code code) }
 {
-    record.kind == READING && record.code == code
+    record.kind == Kind::Reading && record.rank.code == code
 }
 
 impl<'a, K: Tally> Map<'a, K> {
@@ -31,14 +33,13 @@ impl<'a, K: Tally> Map<'a, K> {
     {
         let i = self.take();
         let record = Record {
-            kind: READING,
+            kind: Kind::Reading,
             outer: BoxNumbers { depth: 0, code: 0 },
             inner: BoxNumbers { depth: 33, code: 0 },
             first: NONE,
             second: NONE,
             parent: NONE,
-            priority,
-            code,
+            rank: Rank { priority, code },
         };
         records::write(self.records, i, record);
         store(self.tallies, i, extra);

@@ -17,7 +17,8 @@ mod strike;
 mod tallies;
 
 pub use comparison::{Compared, compare};
-use records::{FourPlaces, NONE, READING, Record};
+use quadtreap::Rank;
+use records::{FourPlaces, Kind, NONE, Record};
 pub use tables::MapFault;
 pub use tallies::Tallied;
 use tally::Tally;
@@ -215,7 +216,7 @@ impl<'a, K: Tally> Map<'a, K> {
         ensures rest { (self.new.places ≡ self.old.places) × ((self.new.live ≡ self.old.live) × ((self.new.fresh ≡ self.old.fresh) × (self.new.freed ≡ self.old.freed))) }
         ensures lends { Lends self.old self.new }
     {
-        nodes::plant::<K>(self.records, i, code, priority, n);
+        nodes::plant::<K>(self.records, i, Rank { priority, code }, n);
         store(self.tallies, n.reading, extra);
         store(self.tallies, n.outer, K::neutral_value());
         self.mend(n.shrink);
@@ -233,10 +234,10 @@ impl<'a, K: Tally> Map<'a, K> {
         }
         let leaf = self.descend(code);
         let r = self.node(leaf);
-        if r.kind != READING {
+        if r.kind != Kind::Reading {
             return Err(MapFault::Absent);
         }
-        if r.code != code {
+        if r.rank.code != code {
             return Err(MapFault::Absent);
         }
         let old = self.entry(leaf);

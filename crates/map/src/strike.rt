@@ -6,7 +6,7 @@ ghost use Rattle.tables.specs.Stands.{Keeps};
 ghost use Rattle.tables.specs.Removal.{given_state, four_given_state, root_above, struck_state, emptied_state};
 
 use crate::Map;
-use records::{FourPlaces, NONE, READING, Record, Sinking};
+use records::{FourPlaces, Kind, NONE, Record, Sinking};
 use tables::MapFault;
 use tally::Tally;
 
@@ -83,10 +83,10 @@ impl<'a, K: Tally> Map<'a, K> {
         }
         let leaf = self.descend(code);
         let r = self.node(leaf);
-        if r.kind != READING {
+        if r.kind != Kind::Reading {
             return Err(MapFault::Absent);
         }
-        if r.code != code {
+        if r.rank.code != code {
             return Err(MapFault::Absent);
         }
         if r.parent == NONE {

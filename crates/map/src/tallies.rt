@@ -8,7 +8,7 @@ ghost use Rattle.tables.specs.Tallies.{Answers};
 
 use crate::Map;
 use place::{Place, PlaceBox};
-use records::{BOX, NONE, READING, Record};
+use records::{Kind, NONE, Record};
 use shape::Shape;
 use tables::{Sight, Spot};
 use tally::Tally;
@@ -76,13 +76,13 @@ impl<'a, K: Tally> Map<'a, K> {
         ensures bound { result.expanded ≤ spot.expanded + 1 }
         ensures value { result ≡ crossed K.Tally.joined (numbered (S.Shape.inner shape.now) (S.Shape.outer shape.now)) r (slice_index_or self.now.tallies.now spot.node K.Tally.neutral) spot }
     {
-        if r.kind == READING {
-            if shape.has(Place::of_code(r.code)) {
+        if r.kind == Kind::Reading {
+            if shape.has(Place::of_code(r.rank.code)) {
                 return self.take_entry(spot);
             }
             return pass(spot);
         }
-        if r.kind == BOX {
+        if r.kind == Kind::Box {
             return pass(spot);
         }
         Spot {

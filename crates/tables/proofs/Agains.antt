@@ -8,6 +8,7 @@ use Rattle.place.specs.Boxes.{Box}
 use Rattle.quadtreap.specs.Tree.{Reading, Content, reading, box, tree_of, nodes}
 use Rattle.quadtreap.specs.Find.{of_code, lookup}
 use Rattle.quadtreap.specs.Carry.{carry, carry_all, carry_tree, map_carry}
+use Rattle.records.specs.Kinds.{is_reading}
 use Rattle.records.specs.PlacedNodes.{PlacedNodes, leaf_at, unplaced, place_of, one, occurs, LiesIn, record_of, above, plug, NodeFrame}
 use Rattle.records.specs.Writes.{at}
 use Rattle.records.specs.PlacedPairs.{PlacedPairs, placed_leaf, nodes_of, tree_in, RanksStand, PairFrame, put_in_all, node_frames}
@@ -159,15 +160,15 @@ module _ {K : Type 0} (join : K → K → K) (e : K) (k : ℕ) (v : K) where
         climbed_up.others j d (omega arith) ∙ get_or-set_other ts i j _ d (differ j i (omega arith))
 
   -- what the leaf holds is no reading with the code
-  pub other_content : (c : Content K) (p i : ℕ) (C : Box) (q : Record) → q ≡ record_of p (leaf_at i C c) → (q.kind ≢ 0) ⊎ (q.code ≢ k) → of_code k c ≡ none
-  other_content (reading r) p i C q is (inl far) = absurd (far (ap (λ (x : Record). x.kind) is))
-  other_content (reading r) p i C q is (inr far) = ap (λ b. cond b (some r) none) (ne_eqb k r.code (λ z. far (ap (λ (x : Record). x.code) is ∙ sym z)))
+  pub other_content : (c : Content K) (p i : ℕ) (C : Box) (q : Record) → q ≡ record_of p (leaf_at i C c) → (is_reading q.kind ≡ false) ⊎ (q.rank.code ≢ k) → of_code k c ≡ none
+  other_content (reading r) p i C q is (inl far) = absurd (mathlib.Core.Bool.false≢true (sym far ∙ ap (λ (x : Record). is_reading x.kind) is))
+  other_content (reading r) p i C q is (inr far) = ap (λ b. cond b (some r) none) (ne_eqb k r.code (λ z. far (ap (λ (x : Record). x.rank.code) is ∙ sym z)))
   other_content (box I) p i C q is way = refl
 
   pub keeps_empty : (s : State K) → s.root ≡ 65535 → Keeps join e s s (repeats k v) (Err Absent)
   keeps_empty s is cs st = absent s cs st (none_found k join e s _ st is)
 
-  pub keeps_other : (s : State K) (i : ℕ) (q : Record) → s.root ≢ 65535 → Descends K s.records s.root k s.places i → q ≡ at s.records i → (q.kind ≢ 0) ⊎ (q.code ≢ k) → Keeps join e s s (repeats k v) (Err Absent)
+  pub keeps_other : (s : State K) (i : ℕ) (q : Record) → s.root ≢ 65535 → Descends K s.records s.root k s.places i → q ≡ at s.records i → (is_reading q.kind ≡ false) ⊎ (q.rank.code ≢ k) → Keeps join e s s (repeats k v) (Err Absent)
   keeps_other s i q far down is way cs st =
       let f = found k join e s _ st far i down in
       absent s cs st (sym f.tells ∙ other_content f.content _ i f.box q (is ∙ f.lies) way)
@@ -177,11 +178,11 @@ module _ {K : Type 0} (join : K → K → K) (e : K) (k : ℕ) (v : K) where
     rs = roll join s.places cs
 
     joined_by : (c : Content K) (path : List (PairFrame K)) (C : Box) (q : Record) → put_in_all path (placed_leaf i C c) ≡ held k join e s rs st far → q ≡ record_of (above (node_frames path)) (leaf_at i C c)
-        → of_code k c ≡ lookup k rs → q.kind ≡ 0 → q.code ≡ k → (m : ℕ) → m ≡ s.live
+        → of_code k c ≡ lookup k rs → is_reading q.kind ≡ true → q.rank.code ≡ k → (m : ℕ) → m ≡ s.live
         → Serves join e s (state s.records (climbed join e s.records s.places q.parent (set s.tallies i (join (get_or s.tallies i e) v))) s.places s.root s.live s.fresh s.freed) (repeats k v) cs (Ok m)
-    joined_by (box I) path C q whole is tells kind code m live = let z : ◌≡◌ {A = ℕ} 1 0 = sym (ap (λ (x : Record). x.kind) is) ∙ kind in absurd (omega arith)
+    joined_by (box I) path C q whole is tells kind code m live = absurd (mathlib.Core.Bool.false≢true (sym (ap (λ (x : Record). is_reading x.kind) is) ∙ kind))
     joined_by (reading r) path C q whole is tells kind code m live =
-        let same : k ≡ r.code = sym code ∙ ap (λ (x : Record). x.code) is in
+        let same : k ≡ r.code = sym code ∙ ap (λ (x : Record). x.rank.code) is in
         let here : lookup k rs ≡ some r = sym tells ∙ ap (λ b. cond b (some r) none) (eq-eqb k r.code same) in
         let there : present k rs ≡ true = ap is_some here in
         let up : q.parent ≡ above (node_frames path) = ap (λ (x : Record). x.parent) is in
@@ -197,7 +198,7 @@ module _ {K : Type 0} (join : K → K → K) (e : K) (k : ℕ) (v : K) where
           unchanged = λ h. absurd (mathlib.Core.Bool.false≢true h);
         }
 
-  pub keeps_joined : (s : State K) (i : ℕ) (q : Record) → s.root ≢ 65535 → Descends K s.records s.root k s.places i → q ≡ at s.records i → q.kind ≡ 0 → q.code ≡ k
+  pub keeps_joined : (s : State K) (i : ℕ) (q : Record) → s.root ≢ 65535 → Descends K s.records s.root k s.places i → q ≡ at s.records i → is_reading q.kind ≡ true → q.rank.code ≡ k
       → (m : ℕ) → m ≡ s.live → (s' : State K)
       → s' ≡ state s.records (climbed join e s.records s.places q.parent (set s.tallies i (join (get_or s.tallies i e) v))) s.places s.root s.live s.fresh s.freed
       → Keeps join e s s' (repeats k v) (Ok m)

@@ -13,6 +13,7 @@ use Rattle.quadtreap.specs.Rank.{without}
 use Rattle.quadtreap.specs.Strike.{is_only}
 use Rattle.quadtreap.specs.Find.{of_code, lookup}
 use Rattle.tables.specs.Calls.{Reply, Call, strikes, is_some, present, roll}
+use Rattle.records.specs.Kinds.{is_reading}
 use Rattle.records.specs.PlacedNodes.{leaf_at, LiesIn, record_of, above}
 use Rattle.records.specs.Writes.{at, Sink, struck_in}
 use Rattle.records.specs.PlacedPairs.{PlacedPairs, placed_leaf, placed_pair, nodes_of, tree_in, PairFrame, on_left_at, on_right_at, on_outer_at, put_in_all, node_frames}
@@ -60,15 +61,15 @@ module _ {K : Type 0} (join : K → K → K) (e : K) (k : ℕ) where
   pub keeps_empty : (s : State K) → s.root ≡ 65535 → Keeps join e s s (strikes k) (Err Absent)
   keeps_empty s is cs st = absent s cs st (none_found k join e s _ st is)
 
-  pub keeps_other : (s : State K) (i : ℕ) (q : Record) → s.root ≢ 65535 → Descends K s.records s.root k s.places i → q ≡ at s.records i → (q.kind ≢ 0) ⊎ (q.code ≢ k) → Keeps join e s s (strikes k) (Err Absent)
+  pub keeps_other : (s : State K) (i : ℕ) (q : Record) → s.root ≢ 65535 → Descends K s.records s.root k s.places i → q ≡ at s.records i → (is_reading q.kind ≡ false) ⊎ (q.rank.code ≢ k) → Keeps join e s s (strikes k) (Err Absent)
   keeps_other s i q far down is way cs st =
       let f = found k join e s _ st far i down in
       absent s cs st (sym f.tells ∙ other_content join e k e f.content _ i f.box q (is ∙ f.lies) way)
 
   -- what the leaf holds is a reading with the code
-  this_content : (c : Content K) (p i : ℕ) (C : Box) (q : Record) → q ≡ record_of p (leaf_at i C c) → q.kind ≡ 0 → q.code ≡ k → (r : Reading K) × (c ≡ reading r) × (k ≡ r.code)
-  this_content (reading r) p i C q is kind code = (r, refl, sym code ∙ ap (λ (x : Record). x.code) is)
-  this_content (box I) p i C q is kind code = let z : ◌≡◌ {A = ℕ} 1 0 = sym (ap (λ (x : Record). x.kind) is) ∙ kind in absurd (omega arith)
+  this_content : (c : Content K) (p i : ℕ) (C : Box) (q : Record) → q ≡ record_of p (leaf_at i C c) → is_reading q.kind ≡ true → q.rank.code ≡ k → (r : Reading K) × (c ≡ reading r) × (k ≡ r.code)
+  this_content (reading r) p i C q is kind code = (r, refl, sym code ∙ ap (λ (x : Record). x.rank.code) is)
+  this_content (box I) p i C q is kind code = absurd (mathlib.Core.Bool.false≢true (sym (ap (λ (x : Record). is_reading x.kind) is) ∙ kind))
 
   -- a leaf under another node is not the only one
   stays_pair : (gs : List (PairFrame K)) (t : PlacedPairs K) → is_leaf_at t ≡ false → is_leaf_at (put_in_all gs t) ≡ false
@@ -94,7 +95,7 @@ module _ {K : Type 0} (join : K → K → K) (e : K) (k : ℕ) where
   alone recs (on_right_at s w r C i E L O ∷ gs) t h up = let o = one_same w in let z = h.low w (omega arith) in absurd (omega arith)
   alone recs (on_outer_at s w r C i E L R ∷ gs) t h up = let o = one_same s in let z = h.low s (omega arith) in absurd (omega arith)
 
-  module _ (s : State K) (i₀ : ℕ) (q : Record) (far : s.root ≢ 65535) (down : Descends K s.records s.root k s.places i₀) (is : q ≡ at s.records i₀) (kind : q.kind ≡ 0) (code : q.code ≡ k) where
+  module _ (s : State K) (i₀ : ℕ) (q : Record) (far : s.root ≢ 65535) (down : Descends K s.records s.root k s.places i₀) (is : q ≡ at s.records i₀) (kind : is_reading q.kind ≡ true) (code : q.rank.code ≡ k) where
     module _ (cs : List (Call K)) (st : Stands join e s (roll join s.places cs)) where
       abbrev rs : List (Reading K)
       rs = roll join s.places cs

@@ -6,9 +6,9 @@ use Rattle.records.specs.declared.record.Record.{Record}
 use Rattle.tables.specs.declared.walk.Spot.{Spot}
 use Rattle.place.specs.Boxes.{Box}
 use Rattle.quadtreap.specs.Tree.{Content, reading, box, Tree, leaf, shrink, split, outer, nodes}
-use Rattle.quadtreap.specs.Rank.{Rank}
+use Rattle.quadtreap.specs.declared.rank.Rank.{Rank}
 use Rattle.quadtreap.specs.Walk.{Tests, Joins, Answer, answer, tally_of, taken, walk, visit, Visits}
-use Rattle.records.specs.PlacedNodes.{Kind, shrinks, splits, PlacedNodes, leaf_at, node_at, unplaced, grown, place_of, occurs, record_of, NodesRecorded}
+use Rattle.records.specs.PlacedNodes.{NodeKind as Kind, shrinks, splits, PlacedNodes, leaf_at, node_at, unplaced, grown, place_of, occurs, record_of, NodesRecorded}
 use Rattle.records.specs.Writes.{at, box_of}
 use Rattle.tables.specs.Totals.{Totals}
 use Rattle.tables.specs.Walks.{moved, took, crossed, arrived, returned, ran}

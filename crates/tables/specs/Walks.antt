@@ -14,6 +14,7 @@ use Rattle.place.specs.Codes.{motor_of, root_of}
 use Rattle.place.specs.Boxes.{Box, cut, in_box}
 use Rattle.crossing.specs.Regions.{Places, misses, held}
 use Rattle.quadtreap.specs.Walk.{Tests}
+use Rattle.records.specs.Kinds.{is_reading, is_box}
 use Rattle.records.specs.Writes.{at, box_of}
 
 -- The tests of a shape, where the two numbers of a box are any: a depth above 32 counts as 32, and the bits below the depth as zeros.
@@ -46,8 +47,8 @@ opened s i = record { node = i; down = true; tally = s.tally; expanded = s.expan
 -- What follows at a node that crosses, with the record r and the tally k: a reading is taken if the inner set has its place, an inner box is passed over, and any other node is expanded.
 abbrev pub crossed : {K : Type 0} → (K → K → K) → Tests → Record → K → Spot K → Spot K
 crossed join q r k s =
-    cond (r.kind == 0) (cond (q.has r.code) (took join s k) (moved s s.node false))
-    (cond (r.kind == 1) (moved s s.node false) (opened s r.first))
+    cond (is_reading r.kind) (cond (q.has r.rank.code) (took join s k) (moved s s.node false))
+    (cond (is_box r.kind) (moved s s.node false) (opened s r.first))
 
 -- What follows where the walk has come down to a node with the record r and the tally k.
 abbrev pub arrived : {K : Type 0} → (K → K → K) → Tests → Record → K → Spot K → Spot K

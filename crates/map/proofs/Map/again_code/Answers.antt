@@ -1,4 +1,4 @@
-use Rattle.std.proofs.Common.{◌≡◌, List, get_or, set, refl, ap, ◌∙◌, inl, inr}
+use Rattle.std.proofs.Common.{◌≡◌, List, get_or, set, refl, ap, ◌∙◌, inl, inr, rules}
 use Rattle.map.proofs.Map.again_code.Goals as goal
 use Rattle.tables.specs.Totals.{climbed}
 use Rattle.tables.proofs.Agains.{keeps_empty, keeps_other, keeps_joined, same_state}
@@ -6,9 +6,9 @@ use Rattle.tables.proofs.Agains.{keeps_empty, keeps_other, keeps_joined, same_st
 pub returns-then-self : goal.returns-then-self
 returns-then-self g c = record { keeps = keeps_empty g.K.Tally.joined g.K.Tally.neutral c.args.code c.args.extra _ c.if-self.true; lends = (refl, refl) }
 
-pub returns-then-r-ne-READING : goal.returns-then-r-ne-READING
-returns-then-r-ne-READING g c = record {
-  keeps = keeps_other g.K.Tally.joined g.K.Tally.neutral c.args.code c.args.extra _ c.descend-leaf.result c.node-r.result c.if-self.false c.descend-leaf.ensures c.node-r.ensures (inl c.if-r-ne-READING.true);
+pub returns-then-ne : goal.returns-then-ne
+returns-then-ne g c = record {
+  keeps = keeps_other g.K.Tally.joined g.K.Tally.neutral c.args.code c.args.extra _ c.descend-leaf.result c.node-r.result c.if-self.false c.descend-leaf.ensures c.node-r.ensures (inl (search rules));
   lends = (refl, refl);
 }
 
@@ -26,7 +26,7 @@ returns g c =
     record {
       keeps =
           keeps_joined g.K.Tally.joined g.K.Tally.neutral c.args.code c.args.extra _ c.descend-leaf.result c.node-r.result c.if-self.false c.descend-leaf.ensures c.node-r.ensures
-          c.if-r-ne-READING.false c.if-r-code.false _ rest.1.1.0 _
+          (search rules) c.if-r-code.false _ rest.1.1.0 _
           (same_state _ _ _ _ _ _ _ _ _ _ _ _ _ _ c.climb.ensures.same
           (c.climb.ensures.run ∙ ap (λ (l : List g.row.K.Denot). climbed g.K.Tally.joined g.K.Tally.neutral c.args.self.now.records.now c.args.self.now.places c.node-r.result.parent l) stored)
           rest.0 rest.1.0 rest.1.1.0 rest.1.1.1.0 rest.1.1.1.1);

@@ -1,4 +1,4 @@
-use Rattle.std.proofs.Common.{refl, ap, inl, inr}
+use Rattle.std.proofs.Common.{refl, ap, inl, inr, rules}
 use Rattle.records.specs.declared.places.Sinking.TheVariants.{Lost}
 use Rattle.map.proofs.Map.strike_code.Goals as goal
 use Rattle.tables.specs.Stands.{State}
@@ -7,9 +7,9 @@ use Rattle.tables.proofs.StrikeCalls.{keeps_empty, keeps_other, keeps_last, keep
 pub returns-then-self : goal.returns-then-self
 returns-then-self g c = record { keeps = keeps_empty g.K.Tally.joined g.K.Tally.neutral c.args.code _ c.if-self.true; lends = (refl, refl) }
 
-pub returns-then-r-ne-READING : goal.returns-then-r-ne-READING
-returns-then-r-ne-READING g c = record {
-  keeps = keeps_other g.K.Tally.joined g.K.Tally.neutral c.args.code _ c.descend-leaf.result c.node-r.result c.if-self.false c.descend-leaf.ensures c.node-r.ensures (inl c.if-r-ne-READING.true);
+pub returns-then-ne : goal.returns-then-ne
+returns-then-ne g c = record {
+  keeps = keeps_other g.K.Tally.joined g.K.Tally.neutral c.args.code _ c.descend-leaf.result c.node-r.result c.if-self.false c.descend-leaf.ensures c.node-r.ensures (inl (search rules));
   lends = (refl, refl);
 }
 
@@ -22,7 +22,7 @@ returns-then-r-code g c = record {
 pub returns-then-r : goal.returns-then-r
 returns-then-r g c = record {
   keeps =
-      keeps_last g.K.Tally.joined g.K.Tally.neutral c.args.code _ c.descend-leaf.result c.node-r.result c.if-self.false c.descend-leaf.ensures c.node-r.ensures c.if-r-ne-READING.false c.if-r-code.false
+      keeps_last g.K.Tally.joined g.K.Tally.neutral c.args.code _ c.descend-leaf.result c.node-r.result c.if-self.false c.descend-leaf.ensures c.node-r.ensures (search rules) c.if-r-code.false
       c.if-r.true _ (ap (λ (s : State g.row.K.Denot). s.live) c.strike_last.ensures.run) _ c.strike_last.ensures.run;
   lends = c.strike_last.ensures.lends;
 }
@@ -30,7 +30,7 @@ returns-then-r g c = record {
 pub returns-in-Done : goal.returns-in-Done
 returns-in-Done g c = record {
   keeps =
-      keeps_struck g.K.Tally.joined g.K.Tally.neutral c.args.code _ c.descend-leaf.result c.node-r.result c.if-self.false c.descend-leaf.ensures c.node-r.ensures c.if-r-ne-READING.false c.if-r-code.false
+      keeps_struck g.K.Tally.joined g.K.Tally.neutral c.args.code _ c.descend-leaf.result c.node-r.result c.if-self.false c.descend-leaf.ensures c.node-r.ensures (search rules) c.if-r-code.false
       c.if-r.false c.strike.new.records c.in-Done.i c.in-Done.places c.in-Done.ensures.table c.in-Done.ensures.ends
       _ (ap (λ (s : State g.row.K.Denot). s.live) c.finish_strike.ensures.run) _ c.finish_strike.ensures.run;
   lends = c.finish_strike.ensures.lends;
@@ -39,7 +39,7 @@ returns-in-Done g c = record {
 pub returns-in-Lost : goal.returns-in-Lost
 returns-in-Lost g c = record {
   keeps =
-      keeps_never g.K.Tally.joined g.K.Tally.neutral c.args.code _ c.descend-leaf.result c.node-r.result c.if-self.false c.descend-leaf.ensures c.node-r.ensures c.if-r-ne-READING.false c.if-r-code.false
+      keeps_never g.K.Tally.joined g.K.Tally.neutral c.args.code _ c.descend-leaf.result c.node-r.result c.if-self.false c.descend-leaf.ensures c.node-r.ensures (search rules) c.if-r-code.false
       c.if-r.false Lost c.in-Lost.ensures.ends refl _ _;
   lends = (refl, refl);
 }
