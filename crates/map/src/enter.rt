@@ -7,6 +7,7 @@ ghost use Rattle.tables.specs.Stands.{Keeps, started, grown};
 
 use crate::renewal::mend_and_rise;
 use crate::{Map, is_reading, store};
+use quadtreap::Rank;
 use records::{FourPlaces, FreePlaces, NONE};
 use tables::MapFault;
 use tally::Tally;
@@ -41,7 +42,7 @@ impl<'a, K: Tally> Map<'a, K> {
         ensures lends { Lends self.old self.new }
     {
         let (i, left) = self.one_free();
-        nodes::plant_first::<K>(self.records, i, code, priority);
+        nodes::plant_first::<K>(self.records, i, Rank { priority, code });
         store(self.tallies, i, extra);
         self.root = i;
         self.live = 1;
@@ -56,7 +57,7 @@ impl<'a, K: Tally> Map<'a, K> {
     {
         let (n, left) = self.four_free();
         let places = self.places;
-        nodes::plant::<K>(self.records, i, code, priority, n);
+        nodes::plant::<K>(self.records, i, Rank { priority, code }, n);
         store(self.tallies, n.reading, extra);
         store(self.tallies, n.outer, K::neutral_value());
         self.root = mend_and_rise(self.records, self.tallies, places, n.shrink);

@@ -3,6 +3,7 @@
 
 ghost use Rattle.std.specs.Prelude.{◌≡◌, ◌&&◌, nat_eq, min, [], slice_index_or, slice_set, MatchOption};
 ghost use Rattle.map.specs.Maps.{state_of, Lends};
+ghost use Rattle.records.specs.Kinds.{is_reading as is_reading_kind};
 ghost use Rattle.records.specs.Writes.{at};
 ghost use Rattle.records.specs.Promises.{Descends};
 ghost use Rattle.tables.specs.Calls.{repeats};
@@ -19,7 +20,7 @@ mod tallies;
 
 use crate::renewal::climb;
 pub use comparison::{Compared, compare};
-use records::{FreePlaces, NONE, READING, Record};
+use records::{FreePlaces, Kind, NONE, Record};
 pub use tables::{MapFault, Tallied};
 use tally::Tally;
 
@@ -46,9 +47,9 @@ pub(crate) fn store<K: Tally>(tallies: &mut [K], i: u16, k: K)
 
 /// Whether a record is the leaf of the reading with a code.
 pub(crate) fn is_reading(record: Record, code: u32) -> bool
-    ensures value { result ≡ (nat_eq «record».kind 0 && nat_eq «record».code code) }
+    ensures value { result ≡ (is_reading_kind «record».kind && nat_eq «record».rank.code code) }
 {
-    record.kind == READING && record.code == code
+    record.kind == Kind::Reading && record.rank.code == code
 }
 
 /// How many places both tables have, 65,533 at most.

@@ -8,7 +8,7 @@ ghost use Rattle.tables.specs.Tallies.{Answers};
 
 use crate::Map;
 use place::{Place, PlaceBox};
-use records::{BOX, NONE, READING, Record};
+use records::{Kind, NONE, Record};
 use shape::Shape;
 use tables::{Position, Sight, Spot, Tallied};
 use tally::Tally;
@@ -33,15 +33,15 @@ fn cross<S: Shape>(r: Record, shape: &S) -> Sight
     ensures value { result ≡ crossed (numbered (S.Shape.inner shape.now) (S.Shape.outer shape.now)) r }
 {
     match r.kind {
-        READING => {
-            if shape.has(Place::of_code(r.code)) {
+        Kind::Reading => {
+            if shape.has(Place::of_code(r.rank.code)) {
                 Sight::Held
             } else {
                 Sight::Misses
             }
         }
-        BOX => Sight::Misses,
-        _ => Sight::Crosses,
+        Kind::Box => Sight::Misses,
+        Kind::Shrink | Kind::Split => Sight::Crosses,
     }
 }
 

@@ -6,7 +6,8 @@ mod tests {
     use map::{Map, MapFault};
     use place::Place;
     use reading::{HalfReading, WholeReading};
-    use records::{BoxNumbers, Record};
+    use quadtreap::Rank;
+    use records::{BoxNumbers, Kind, Record};
     use shape::Disc;
     use std::test::Fail;
     use tally::Sum;
@@ -15,14 +16,16 @@ mod tests {
 
     // What a table held before is of no matter.
     const USED: Record = Record {
-        kind: 3,
+        kind: Kind::Split,
         outer: NO_BOX,
         inner: NO_BOX,
         first: 1,
         second: 2,
         parent: 3,
-        priority: 4,
-        code: 5,
+        rank: Rank {
+            priority: 4,
+            code: 5,
+        },
     };
 
     fn whole(motor: u16, root: u16) -> Result<WholeReading, Fail> {

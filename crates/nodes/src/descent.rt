@@ -3,7 +3,7 @@ ghost use Rattle.std.specs.Prelude.{◌≡◌};
 ghost use Rattle.records.specs.Writes.{descended};
 ghost use Rattle.records.specs.Promises.{Descends};
 
-use records::{Record, SHRINK, read};
+use records::{Record, read};
 
 /// The leaf where a code leads from `root`, in at most `budget` steps.
 pub fn descend<K>(records: &[Record], root: u16, code: u32, budget: u32) -> u16
@@ -11,10 +11,9 @@ pub fn descend<K>(records: &[Record], root: u16, code: u32, budget: u32) -> u16
     ensures stands { Descends K records.now root code budget result }
 {
     let mut i = root;
-    let mut left = budget;
-    while left > 0 {
+    for _ in 0..budget {
         let r = read(records, i);
-        if r.kind < SHRINK {
+        if r.kind.is_leaf() {
             return i;
         }
         if read(records, r.first).outer.holds(code) {
@@ -22,7 +21,6 @@ pub fn descend<K>(records: &[Record], root: u16, code: u32, budget: u32) -> u16
         } else {
             i = r.second;
         }
-        left -= 1;
     }
     i
 }

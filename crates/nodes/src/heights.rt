@@ -2,7 +2,7 @@
 ghost use Rattle.std.specs.Prelude.{◌≡◌, ◌≤◌};
 ghost use Rattle.records.specs.Heights.{height_in, Heights};
 
-use records::{Record, SHRINK, read};
+use records::{Record, read};
 
 /// The height of the tree under the node at `i`, where at most `left` nodes are left.
 /// The number left falls at each call, so that any records give an answer.
@@ -15,13 +15,10 @@ pub fn height<K>(records: &[Record], i: u16, left: u16) -> u16
         return 0;
     }
     let r = read(records, i);
-    if r.kind < SHRINK {
+    if r.kind.is_leaf() {
         return 0;
     }
     let a = height::<K>(records, r.first, left - 1);
     let b = height::<K>(records, r.second, left - 1);
-    if a < b {
-        return b + 1;
-    }
-    a + 1
+    a.max(b) + 1
 }

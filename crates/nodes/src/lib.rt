@@ -25,17 +25,17 @@ pub use striking::strike;
 #[cfg(test)]
 mod tests {
     use super::*;
-    use records::{BoxNumbers, FreePlaces, NONE, READING, Record, Sinking, read};
+    use quadtreap::{Rank, UNRANKED};
+    use records::{BoxNumbers, FreePlaces, Kind, NONE, Record, Sinking, read};
 
     const VACANT: Record = Record {
-        kind: 0,
+        kind: Kind::Reading,
         outer: BoxNumbers { depth: 0, code: 0 },
         inner: BoxNumbers { depth: 33, code: 0 },
         first: NONE,
         second: NONE,
         parent: NONE,
-        priority: 0,
-        code: 0,
+        rank: UNRANKED,
     };
 
     // A tree, by its root, and the places that are free.
@@ -71,14 +71,14 @@ mod tests {
         let free = none_used();
         let root = next_free(free);
         let free = take(records, free);
-        plant_first::<u8>(records, root, code, priority);
+        plant_first::<u8>(records, root, Rank { priority, code });
         Grown { root, free }
     }
 
     fn enter(records: &mut [Record], tree: Grown, code: u32, priority: u32) -> Grown {
         let leaf = descend::<u8>(records, tree.root, code, 64);
         let (places, free) = take_four(records, tree.free);
-        plant::<u8>(records, leaf, code, priority, places);
+        plant::<u8>(records, leaf, Rank { priority, code }, places);
         let root = rise(records, places.shrink);
         Grown { root, free }
     }
@@ -98,7 +98,7 @@ mod tests {
 
     fn holds(records: &[Record], tree: Grown, code: u32) -> bool {
         let r = read(records, descend::<u8>(records, tree.root, code, 64));
-        r.kind == READING && r.code == code
+        r.kind == Kind::Reading && r.rank.code == code
     }
 
     fn three(records: &mut [Record]) -> Grown {
@@ -117,7 +117,7 @@ mod tests {
         assert!(rt; !holds(&table, tree, 25));
         let tree = enter(&mut table, tree, 0, 1);
         assert!(rt; holds(&table, tree, 0));
-        assert_eq!(rt; read(&table, tree.root).priority, 1);
+        assert_eq!(rt; read(&table, tree.root).rank.priority, 1);
         assert_eq!(rt; read(&table, tree.root).parent, NONE);
     }
 

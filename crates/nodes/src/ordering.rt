@@ -3,16 +3,17 @@ ghost use Rattle.std.specs.Prelude.{◌≡◌};
 ghost use Rattle.records.specs.Writes.{ranked, swapped, ordered_in};
 ghost use Rattle.records.specs.Promises.{Orders};
 
+use quadtreap::{Rank, UNRANKED};
 use records::{Record, read, write};
 
 /// Gives the pair at `s` a rank.
-pub fn rank(records: &mut [Record], s: u16, priority: u32, code: u32)
-    ensures table { records.new ≡ ranked records.old s priority code }
+pub fn rank(records: &mut [Record], s: u16, rank: Rank)
+    ensures table { records.new ≡ ranked records.old s rank }
 {
     let rs = read(records, s);
     let rw = read(records, rs.first);
-    write(records, s, rs.with_rank(priority, code));
-    write(records, rs.first, rw.with_rank(priority, code));
+    write(records, s, rs.with_rank(rank));
+    write(records, rs.first, rw.with_rank(rank));
 }
 
 /// Left and right of the pair at `s` change places, and it takes the rank of the new left.
@@ -22,8 +23,8 @@ pub fn exchange(records: &mut [Record], s: u16)
     let rs = read(records, s);
     let rw = read(records, rs.first);
     let rb = read(records, rw.second);
-    let over = rw.with_rank(rb.priority, rb.code).with_second(rw.first);
-    write(records, s, rs.with_rank(rb.priority, rb.code));
+    let over = rw.with_rank(rb.rank).with_second(rw.first);
+    write(records, s, rs.with_rank(rb.rank));
     write(records, rs.first, over.with_first(rw.second));
 }
 
@@ -34,7 +35,7 @@ pub fn order<K>(records: &mut [Record], s: u16)
 {
     let rs = read(records, s);
     if rs.inner.depth <= 32 {
-        rank(records, s, 0, 0);
+        rank(records, s, UNRANKED);
         return;
     }
     let rw = read(records, rs.first);
@@ -44,5 +45,5 @@ pub fn order<K>(records: &mut [Record], s: u16)
         exchange(records, s);
         return;
     }
-    rank(records, s, ra.priority, ra.code);
+    rank(records, s, ra.rank);
 }

@@ -5,7 +5,7 @@ ghost use Rattle.records.specs.Promises.{Settles};
 
 use crate::ordering::order;
 use crate::promotion::{promote_left, promote_outer};
-use records::{NONE, Record, SHRINK, SPLIT, read};
+use records::{Kind, NONE, Record, read};
 
 /// The pair that is in its place after a step up, and the pair that it rose over, whose two tallies are to be renewed,
 /// or 65535.
@@ -20,11 +20,11 @@ pub fn made_earlier(records: &[Record], a: u16, b: u16) -> bool
     ensures value { result ≡ earlier_in records.now a b }
 {
     let ra = read(records, a);
-    if ra.kind != SHRINK {
+    if ra.kind != Kind::Shrink {
         return false;
     }
     let rb = read(records, b);
-    if rb.kind != SHRINK {
+    if rb.kind != Kind::Shrink {
         return true;
     }
     let x = read(records, read(records, ra.first).second);
@@ -41,7 +41,7 @@ pub fn settle<K>(records: &mut [Record], s: u16) -> Settled
 {
     let up = read(records, s).parent;
     let rp = read(records, up);
-    if rp.kind != SPLIT {
+    if rp.kind != Kind::Split {
         if made_earlier(records, s, up) {
             promote_outer::<K>(records, up);
             order::<K>(records, s);

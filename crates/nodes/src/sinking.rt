@@ -6,7 +6,8 @@ ghost use Rattle.records.specs.Promises.{Sinks};
 use crate::ordering::{exchange, rank};
 use crate::promotion::{promote_left, promote_outer};
 use crate::rise::made_earlier;
-use records::{FourPlaces, Record, SHRINK, Sinking, read, relink, write};
+use quadtreap::UNRANKED;
+use records::{FourPlaces, Kind, Record, Sinking, read, relink, write};
 
 /// Whether the node at `a` is a pair, and made first of the three.
 fn made_first(records: &[Record], a: u16, b: u16, c: u16) -> bool
@@ -21,9 +22,9 @@ fn above_leaves(records: &[Record], s: u16) -> bool
 {
     let rs = read(records, s);
     let rw = read(records, rs.first);
-    read(records, rw.first).kind < SHRINK
-        && read(records, rw.second).kind < SHRINK
-        && read(records, rs.second).kind < SHRINK
+    read(records, rw.first).kind.is_leaf()
+        && read(records, rw.second).kind.is_leaf()
+        && read(records, rs.second).kind.is_leaf()
 }
 
 /// The leaf at `i` takes the place of the pair at `s`.
@@ -57,10 +58,10 @@ fn raise_outer<K>(records: &mut [Record], s: u16, i: u16)
     let ri = read(records, i);
     promote_outer::<K>(records, s);
     if rs.inner.depth <= 32 {
-        rank(records, rs.second, 0, 0);
+        rank(records, rs.second, UNRANKED);
         return;
     }
-    rank(records, rs.second, ri.priority, ri.code);
+    rank(records, rs.second, ri.rank);
 }
 
 /// A step down where the struck reading is the first of the right child.
@@ -133,10 +134,10 @@ fn sink_pair<K>(records: &mut [Record], s: u16, code: u32) -> Sinking
 {
     let rs = read(records, s);
     let rw = read(records, rs.first);
-    if code == read(records, rw.second).code {
+    if code == read(records, rw.second).rank.code {
         return sink_right::<K>(records, s);
     }
-    if rs.inner.depth > 32 && code == read(records, rw.first).code {
+    if rs.inner.depth > 32 && code == read(records, rw.first).rank.code {
         return sink_left::<K>(records, s);
     }
     Sinking::On(child_toward(records, s, code))
@@ -148,7 +149,7 @@ pub fn sink<K>(records: &mut [Record], s: u16, code: u32) -> Sinking
     ensures ends { result ≡ (sunk_in records.old s code).ends }
     ensures stands { Sinks K records.old records.new s code result }
 {
-    if read(records, s).kind != SHRINK {
+    if read(records, s).kind != Kind::Shrink {
         return Sinking::Lost;
     }
     sink_pair::<K>(records, s, code)

@@ -13,8 +13,7 @@ pub fn strike<K>(records: &mut [Record], root: u16, code: u32, budget: u32) -> S
     ensures stands { Strikes K records.old records.new root code budget result }
 {
     let mut s = root;
-    let mut left = budget;
-    while left > 0 {
+    for _ in 0..budget {
         match sink::<K>(records, s, code) {
             Sinking::On(next) => {
                 s = next;
@@ -26,7 +25,6 @@ pub fn strike<K>(records: &mut [Record], root: u16, code: u32, budget: u32) -> S
                 return Sinking::Lost;
             }
         }
-        left -= 1;
     }
     Sinking::On(s)
 }

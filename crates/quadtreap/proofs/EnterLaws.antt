@@ -6,7 +6,8 @@ use Rattle.std.proofs.lemmas.Bool.{cases_Bool, both_ways, and_parts, and_right, 
 use Rattle.std.proofs.ByRecursion.{all_kept_by}
 use Rattle.place.specs.Boxes.{Box, holds, smallest, half}
 use Rattle.quadtreap.specs.Tree.{Reading, Content, reading, box, Tree, leaf, shrink, split, point_of, extent, box_in, outer, lies, outside, pair, insert, insert_all, build}
-use Rattle.quadtreap.specs.Rank.{before, put, Rank, earlier, rank_of}
+use Rattle.quadtreap.specs.declared.rank.Rank.{Rank}
+use Rattle.quadtreap.specs.Rank.{before, put, earlier, rank_of}
 use Rattle.quadtreap.specs.Pairs.{inner_box, left_of, promote_left, promote_outer, unranked, node_rank, creation, earlier_than, is_none, out_of_order, ordered, Frame, on_left, on_right, on_outer, plug, plug_all}
 use Rattle.quadtreap.specs.Enter.{settle, enter_tree, settle_all, leads, leads_all}
 use Rattle.place.proofs.BoxLaws.{Parts, halves}

@@ -4,7 +4,7 @@ use mathlib.Core.Option.{Option, none, some}
 use Rattle.std.proofs.lemmas.Bool.{cases_Bool, both_ways, cond_both, cond-true, cond-false, and_parts}
 use Rattle.place.specs.Boxes.{Box, whole, holds}
 use Rattle.quadtreap.specs.Tree.{Reading, Content, reading, box, Tree, leaf, shrink, split, box_in, outer, lies, insert, insert_all, build, tree_of, nodes}
-use Rattle.quadtreap.specs.Rank.{Rank}
+use Rattle.quadtreap.specs.declared.rank.Rank.{Rank}
 use Rattle.quadtreap.specs.Pairs.{inner_box, is_leaf, first, left_of, right_of, promote_left, promote_outer, node_rank, creation, earlier_than, is_none, out_of_order, ordered, Frame, on_left, on_right, on_outer, plug, Paired, Fitting}
 use Rattle.quadtreap.specs.Enter.{settle}
 use Rattle.quadtreap.specs.Strike.{Step, above_leaves, least_of, with_outer_box, to_left, to_right, to_outer, sink_right, sink_left, descend, strike_step, after, strike_in, FittingStep, node_rank_after}

@@ -5,7 +5,8 @@ use Rattle.std.proofs.lemmas.Bool.{cases_Bool}
 use Rattle.std.proofs.lemmas.Bool.Decides.{nat_tests}
 use Rattle.std.proofs.ByRecursion.{all_kept_by}
 use Rattle.quadtreap.specs.Tree.{Reading}
-use Rattle.quadtreap.specs.Rank.{Rank, earlier, rank_of, before, Ranked, put}
+use Rattle.quadtreap.specs.declared.rank.Rank.{Rank}
+use Rattle.quadtreap.specs.Rank.{earlier, rank_of, before, Ranked, put}
 
 pub before_is : {K : Type 0} (p q : Reading K) → before p q ≡ earlier (rank_of p) (rank_of q)
 unfolding before

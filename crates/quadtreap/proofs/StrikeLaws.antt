@@ -6,7 +6,8 @@ use Rattle.std.proofs.lemmas.Bool.{not-true, cases_Bool, both_ways, and_from, co
 use Rattle.std.proofs.ByRecursion.{all_kept_by, All-weaker}
 use Rattle.place.specs.Boxes.{prefix, Box, point, holds, smallest, half}
 use Rattle.quadtreap.specs.Tree.{Reading, Content, reading, box, Tree, leaf, shrink, split, point_of, extent, box_in, outer, lies, outside, pair, build, nodes}
-use Rattle.quadtreap.specs.Rank.{before, Ranked, other, without, Rank, rank_of}
+use Rattle.quadtreap.specs.declared.rank.Rank.{Rank}
+use Rattle.quadtreap.specs.Rank.{before, Ranked, other, without, rank_of}
 use Rattle.quadtreap.specs.Pairs.{is_leaf, inner_box, split_box, first, second, left_of, right_of, exchanged, promote_left, promote_outer, node_rank, creation, earlier_than, is_none, Frame, on_left, plug}
 use Rattle.quadtreap.specs.Strike.{Step, done, on, to_left, to_right, to_outer, above_leaves, least_of, sink_right, sink_left, descend, strike_step, after, strike_in, strike_tree, holds_code}
 use Rattle.place.proofs.BoxLaws.{Parts, Parts-flip, halves}

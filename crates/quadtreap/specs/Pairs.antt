@@ -9,7 +9,8 @@ use Rattle.std.specs.Prelude.{◌≡◌, Bool, true, false, cond, ◌&&◌, List
 use Rattle.std.proofs.Math.Option.{Option, none, some}
 use Rattle.place.specs.Boxes.{Box}
 use Rattle.quadtreap.specs.Tree.{reading, box, Tree, leaf, shrink, split, box_in, outer, pair}
-use Rattle.quadtreap.specs.Rank.{Rank, earlier, rank_of}
+use Rattle.quadtreap.specs.declared.rank.Rank.{Rank}
+use Rattle.quadtreap.specs.Rank.{earlier, rank_of}
 
 -- The first child of a node, and a leaf itself.
 abbrev pub first : {K : Type 0} → Tree K → Tree K

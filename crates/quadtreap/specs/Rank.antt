@@ -1,5 +1,5 @@
 -- Rank, lists of readings in rank order, and the tree of a set of readings.
---   Rank, earlier, rank_of, before   what readings are ordered by, and which comes first
+--   earlier, rank_of, before         which rank and which reading comes first
 --   Ranked, Valid                    lists in rank order; lists of codes of 32 bits that all differ
 --   put, in_rank_order               a reading put at its rank, and a list brought into rank order
 --   tree_of_set                      the tree of a set of readings
@@ -8,12 +8,8 @@
 use Rattle.std.specs.Prelude.{◌≡◌, ℕ, ◌^◌, ◌<◌, Bool, true, cond, not, ◌&&◌, ◌||◌, ◌⊎◌, List, [], ◌∷◌, filter, ◌==◌, ◌≢◌, nat_lt}
 use Rattle.std.proofs.Math.Option.{Option}
 use Rattle.std.specs.List.{AllByRecursion}
+use Rattle.quadtreap.specs.declared.rank.Rank.{Rank}
 use Rattle.quadtreap.specs.Tree.{Reading, Tree, tree_of}
-
--- A rank is a priority and a code.
-pub record Rank : Type 0 where
-  pub priority : ℕ
-  pub code : ℕ
 
 -- Whether one rank comes before another: the smaller priority first, and at equal priority the smaller code.
 unfoldable pub earlier : Rank → Rank → Bool

@@ -9,7 +9,7 @@ use Rattle.std.specs.Prelude.{◌≡◌, ℕ, zero, suc, Bool, false, cond, ◌&
 use Rattle.std.proofs.Math.Option.{Option, none, some}
 use Rattle.place.specs.Boxes.{Box, holds}
 use Rattle.quadtreap.specs.Tree.{Content, reading, box, Tree, leaf, shrink, split, outer, nodes}
-use Rattle.quadtreap.specs.Rank.{Rank}
+use Rattle.quadtreap.specs.declared.rank.Rank.{Rank}
 use Rattle.quadtreap.specs.Pairs.{first, second, inner_box, split_box, left_of, right_of, is_leaf, is_none, exchanged, promote_left, promote_outer, node_rank, creation, earlier_than, Frame, on_left, on_right, on_outer, plug, Paired, Fitting}
 
 -- A step ends in the tree as it stays, or in a frame that stays and the smaller tree to go on with.

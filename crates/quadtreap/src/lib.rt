@@ -1,8 +1,12 @@
-//! The tree of a map of readings: its definition, six theorems, and the laws that tables and maps are proved by. Definitions and theorems only.
+//! The tree of a map of readings: its definition, six theorems, and the laws that tables and maps are proved by. Definitions and theorems, and the rank of a reading.
 #![tactic(auto)]
 
 ghost use Rattle.quadtreap.specs.Theorems.{LayoutIsInsertion, NodeCount, EnterGivesTree, StrikeGivesTree, CountsEachOnce, EffortIsBounded, SameReadings, SameSet};
 ghost use Rattle.quadtreap.specs.Laws.{StaysPaired, Kept, Settled, Risen, GoesOn, IsDone, Relabels, StaysRanked, SortsByRank, Finds, Carried, Totals, StepByStep, SameTests};
+
+mod rank;
+
+pub use rank::{Rank, UNRANKED};
 
 /// The direct description of the tree is the tree of insertion, and n readings make 4n - 3 nodes.
 pub fn tree_is_described<K>()

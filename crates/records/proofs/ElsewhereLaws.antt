@@ -5,7 +5,8 @@ use Rattle.records.specs.declared.record.Record.{Record}
 use Rattle.records.specs.declared.places.FourPlaces.{FourPlaces}
 use Rattle.place.specs.Boxes.{Box}
 use Rattle.quadtreap.specs.Tree.{Reading, Content, outer, box_in}
-use Rattle.quadtreap.specs.Rank.{Rank, earlier}
+use Rattle.quadtreap.specs.declared.rank.Rank.{Rank}
+use Rattle.quadtreap.specs.Rank.{earlier, rank_of}
 use Rattle.quadtreap.specs.Pairs.{unranked}
 use Rattle.records.specs.PlacedNodes.{shrinks, splits, PlacedNodes, leaf_at, node_at, pair_at, unplaced, carried, inner_numbers, one, occurs, NodeFrame, above}
 use Rattle.records.specs.Writes.{Write, wrote, relinked, promoted_left, promoted_outer, ranked, swapped, ordered_in, settled_in, Rise, planted}
@@ -64,7 +65,7 @@ module _ {K : Type 0} where
       abbrev all : ℕ → ℕ
       all = used_by f (pair_at s w r C i E L R O)
 
-      pub off_rank : (q : Rank) → Elsewhere all recs (ranked recs s q.priority q.code)
+      pub off_rank : (q : Rank) → Elsewhere all recs (ranked recs s q)
       off_rank q = subst (Elsewhere all recs) (sym (rank_computes recs f s w r C i E L R O h q)) (by_writes all recs (rank_writes recs f s w r C i E L R O h q) (λ j z. omega arith))
 
       pub off_swap : Elsewhere all recs (swapped recs s)
@@ -73,8 +74,8 @@ module _ {K : Type 0} where
       pub off_ordered : Elsewhere all recs (ordered_in recs s)
       off_ordered =
           subst (Elsewhere all recs) (sym (ordered_computes recs f s w r C i E L R O h))
-          (elim (ltb 32 (inner_numbers i).depth) as (λ b. Elsewhere all recs (cond b (cond (earlier (carried R) (carried L)) (swapped recs s) (ranked recs s (carried L).priority (carried L).code)) (ranked recs s 0 0))) [
-            | true ↦ elim (earlier (carried R) (carried L)) as (λ b. Elsewhere all recs (cond b (swapped recs s) (ranked recs s (carried L).priority (carried L).code))) [ true ↦ off_swap | false ↦ off_rank (carried L) ]
+          (elim (ltb 32 (inner_numbers i).depth) as (λ b. Elsewhere all recs (cond b (cond (earlier (carried R) (carried L)) (swapped recs s) (ranked recs s (carried L))) (ranked recs s unranked))) [
+            | true ↦ elim (earlier (carried R) (carried L)) as (λ b. Elsewhere all recs (cond b (swapped recs s) (ranked recs s (carried L)))) [ true ↦ off_swap | false ↦ off_rank (carried L) ]
             | false ↦ off_rank unranked
           ])
 
@@ -118,7 +119,7 @@ module _ {K : Type 0} where
 
   pub off_plant : (recs : List Record) (f : List (NodeFrame K)) (i : ℕ) (C : Box) (p : Reading K) (n : FourPlaces) (c : Content K) (h : LiesAmong recs f (leaf_at i C c)) (free : Free recs (placed_leaf i C c) n)
       (new : (j : ℕ) → touched j (new_writes recs f i C p n c) + occurs_around j f ≤ 1) (small : (new_box recs f i C p n c).depth < 32)
-      → Elsewhere (λ j. four j n + (one j i + occurs_around j f)) recs (planted recs i p.code p.priority n)
+      → Elsewhere (λ j. four j n + (one j i + occurs_around j f)) recs (planted recs i (rank_of p) n)
   off_plant recs f i C p n c h free new small =
       let used : ℕ → ℕ = λ j. four j n + (one j i + occurs_around j f) in
       let first' : Elsewhere used recs (table recs f i C p n) =

@@ -5,9 +5,9 @@ use Rattle.std.proofs.lemmas.Bool.{eq-eqb, ne_eqb, cases_eq}
 use Rattle.records.specs.declared.record.Record.{Record}
 use Rattle.place.specs.Boxes.{Box}
 use Rattle.quadtreap.specs.Tree.{outer}
-use Rattle.quadtreap.specs.Rank.{Rank}
-use Rattle.records.specs.PlacedNodes.{Kind, shrinks, splits, kind_of, in_record, PlacedNodes, leaf_at, node_at, unplaced, grown, place_of, one, occurs, Shallow, Sized, numbers_of, carried, blank, record_of, Lies, NodesRecorded, LiesIn, NodeFrame, first, second, plug, above}
-use Rattle.records.specs.Writes.{at, Write, wrote, rank_in}
+use Rattle.quadtreap.specs.declared.rank.Rank.{Rank}
+use Rattle.records.specs.PlacedNodes.{NodeKind, shrinks, splits, kind_of, in_record, PlacedNodes, leaf_at, node_at, unplaced, grown, place_of, one, occurs, Shallow, Sized, numbers_of, carried, blank, record_of, Lies, NodesRecorded, LiesIn, NodeFrame, first, second, plug, above}
+use Rattle.records.specs.Writes.{at, Write, wrote}
 
 -- places
 pub one_same : (i : ℕ) → one i i ≡ 1
@@ -68,7 +68,7 @@ module _ {K : Type 0} where
   root_outer p (node_at k q r C g a b) =
       elim k as (λ v. numbers_of C ≡ numbers_of (outer (grown v C g (unplaced a) (unplaced b)))) [ shrinks ↦ refl | splits ↦ refl ]
 
-  pub root_rank : (p : ℕ) (t : PlacedNodes K) → rank_in (record_of p t) ≡ carried t
+  pub root_rank : (p : ℕ) (t : PlacedNodes K) → (record_of p t).rank ≡ carried t
   root_rank p (leaf_at q C c) = refl
   root_rank p (node_at k q r C g a b) = refl
 
@@ -113,7 +113,7 @@ module _ {K : Type 0} where
     pub sized : Sized t
     pub framed : AllSized f
 
-  pub down_first : (recs : List Record) (f : List (NodeFrame K)) (k : Kind) (p : ℕ) (r : Rank) (C : Box) (g : Option Box) (a b : PlacedNodes K) → LiesAmong recs f (node_at k p r C g a b) → LiesAmong recs (first k p r C g b ∷ f) a
+  pub down_first : (recs : List Record) (f : List (NodeFrame K)) (k : NodeKind) (p : ℕ) (r : Rank) (C : Box) (g : Option Box) (a b : PlacedNodes K) → LiesAmong recs f (node_at k p r C g a b) → LiesAmong recs (first k p r C g b ∷ f) a
   down_first recs f k p r C g a b h = record {
     laid = h.laid.1;
     around = (h.laid.0, h.laid.2, h.around);
@@ -123,7 +123,7 @@ module _ {K : Type 0} where
     framed = (h.sized.0, h.sized.1, h.sized.3, h.framed);
   }
 
-  pub down_second : (recs : List Record) (f : List (NodeFrame K)) (k : Kind) (p : ℕ) (r : Rank) (C : Box) (g : Option Box) (a b : PlacedNodes K) → LiesAmong recs f (node_at k p r C g a b) → LiesAmong recs (second k p r C g a ∷ f) b
+  pub down_second : (recs : List Record) (f : List (NodeFrame K)) (k : NodeKind) (p : ℕ) (r : Rank) (C : Box) (g : Option Box) (a b : PlacedNodes K) → LiesAmong recs f (node_at k p r C g a b) → LiesAmong recs (second k p r C g a ∷ f) b
   down_second recs f k p r C g a b h = record {
     laid = h.laid.2;
     around = (h.laid.0, h.laid.1, h.around);
@@ -133,7 +133,7 @@ module _ {K : Type 0} where
     framed = (h.sized.0, h.sized.1, h.sized.2, h.framed);
   }
 
-  pub up_first : (recs : List Record) (f : List (NodeFrame K)) (k : Kind) (p : ℕ) (r : Rank) (C : Box) (g : Option Box) (a b : PlacedNodes K) → LiesAmong recs (first k p r C g b ∷ f) a → LiesAmong recs f (node_at k p r C g a b)
+  pub up_first : (recs : List Record) (f : List (NodeFrame K)) (k : NodeKind) (p : ℕ) (r : Rank) (C : Box) (g : Option Box) (a b : PlacedNodes K) → LiesAmong recs (first k p r C g b ∷ f) a → LiesAmong recs f (node_at k p r C g a b)
   up_first recs f k p r C g a b h = record {
     laid = (h.around.0, h.laid, h.around.1);
     around = h.around.2;
@@ -143,7 +143,7 @@ module _ {K : Type 0} where
     framed = h.framed.3;
   }
 
-  pub up_second : (recs : List Record) (f : List (NodeFrame K)) (k : Kind) (p : ℕ) (r : Rank) (C : Box) (g : Option Box) (a b : PlacedNodes K) → LiesAmong recs (second k p r C g a ∷ f) b → LiesAmong recs f (node_at k p r C g a b)
+  pub up_second : (recs : List Record) (f : List (NodeFrame K)) (k : NodeKind) (p : ℕ) (r : Rank) (C : Box) (g : Option Box) (a b : PlacedNodes K) → LiesAmong recs (second k p r C g a ∷ f) b → LiesAmong recs f (node_at k p r C g a b)
   up_second recs f k p r C g a b h = record {
     laid = (h.around.0, h.around.1, h.laid);
     around = h.around.2;

@@ -1,8 +1,8 @@
 -- The height that the records tell is that of the tree that lies in them.
-use Rattle.std.proofs.Common.{◌≡◌, ℕ, zero, suc, ◌-◌, ◌<◌, ◌≤◌, max, cond, List, sym, refl, ap, ◌∙◌, subst, arith}
-use Rattle.std.proofs.lemmas.Bool.{lt-ltb, le-ltb}
+use Rattle.std.proofs.Common.{◌≡◌, ℕ, zero, suc, ◌-◌, ◌<◌, ◌≤◌, max, true, false, cond, List, sym, refl, ap, ◌∙◌, subst, arith}
 use Rattle.records.specs.declared.record.Record.{Record}
 use Rattle.quadtreap.specs.Tree.{Content, reading, box, nodes, height}
+use Rattle.records.specs.Kinds.{is_leaf}
 use Rattle.records.specs.PlacedNodes.{PlacedNodes, leaf_at, node_at, shrinks, splits, unplaced, place_of, leaf_kind, NodesRecorded}
 use Rattle.records.specs.Writes.{at}
 use Rattle.records.specs.PlacedPairs.{nodes_of}
@@ -12,19 +12,19 @@ use Rattle.records.specs.Heights.{height_in, Heights}
 abbrev over : ℕ → List Record → ℕ → ℕ
 over n recs i = suc (max (height_in n recs (at recs i).first) (height_in n recs (at recs i).second))
 
-pub at_leaf : (n : ℕ) (recs : List Record) (i : ℕ) → (at recs i).kind < 2 → height_in n recs i ≡ 0
+pub at_leaf : (n : ℕ) (recs : List Record) (i : ℕ) → is_leaf (at recs i).kind ≡ true → height_in n recs i ≡ 0
 at_leaf zero recs i low = refl
-at_leaf (suc n) recs i low = ap (λ b. cond b 0 (over n recs i)) (lt-ltb (at recs i).kind 2 low)
+at_leaf (suc n) recs i low = ap (λ b. cond b 0 (over n recs i)) low
 
-pub at_node : (n : ℕ) (recs : List Record) (i : ℕ) → 0 < n → 2 ≤ (at recs i).kind → height_in n recs i ≡ over (n - 1) recs i
+pub at_node : (n : ℕ) (recs : List Record) (i : ℕ) → 0 < n → is_leaf (at recs i).kind ≡ false → height_in n recs i ≡ over (n - 1) recs i
 at_node zero recs i some high = absurd (omega arith)
 at_node (suc n) recs i some high =
     let back : n ≡ suc n - 1 = omega arith in
-    ap (λ b. cond b 0 (over n recs i)) (le-ltb (at recs i).kind 2 high) ∙ ap (λ (m : ℕ). over m recs i) back
+    ap (λ b. cond b 0 (over n recs i)) high ∙ ap (λ (m : ℕ). over m recs i) back
 
-leaf_low : {K : Type 0} (c : Content K) → leaf_kind c < 2
-leaf_low (reading r) = omega arith
-leaf_low (box I) = omega arith
+leaf_low : {K : Type 0} (c : Content K) → is_leaf (leaf_kind c) ≡ true
+leaf_low (reading r) = refl
+leaf_low (box I) = refl
 
 module _ (recs : List Record) where
   -- the heights of both children are known
@@ -34,23 +34,23 @@ module _ (recs : List Record) where
       ∙ ap (λ (m : ℕ). suc (max x m)) (ap (height_in n recs) eb ∙ hb)
 
   -- what a turn of the recursion reads in r, and is told of both children
-  pub told_leaf : (n i : ℕ) (r : Record) → r ≡ at recs i → r.kind < 2 → 0 ≡ height_in n recs i
-  told_leaf n i r is low = sym (at_leaf n recs i (subst (λ (v : Record). v.kind < 2) is low))
+  pub told_leaf : (n i : ℕ) (r : Record) → r ≡ at recs i → is_leaf r.kind ≡ true → 0 ≡ height_in n recs i
+  told_leaf n i r is low = sym (at_leaf n recs i (subst (λ (v : Record). is_leaf v.kind ≡ true) is low))
 
-  pub told_node : (n i : ℕ) (r : Record) (a b : ℕ) → r ≡ at recs i → 0 < n → 2 ≤ r.kind → a ≡ height_in (n - 1) recs r.first → b ≡ height_in (n - 1) recs r.second
+  pub told_node : (n i : ℕ) (r : Record) (a b : ℕ) → r ≡ at recs i → 0 < n → is_leaf r.kind ≡ false → a ≡ height_in (n - 1) recs r.first → b ≡ height_in (n - 1) recs r.second
       → suc (max a b) ≡ height_in n recs i
   told_node n i r a b is some high ha hb =
-      sym (at_node n recs i some (subst (λ (v : Record). 2 ≤ v.kind) is high)
+      sym (at_node n recs i some (subst (λ (v : Record). is_leaf v.kind ≡ false) is high)
       ∙ over_both (n - 1) i r.first r.second a b (ap (λ (v : Record). v.first) (sym is)) (ap (λ (v : Record). v.second) (sym is)) (sym ha) (sym hb))
 
   pub of_nodes_of : {K : Type 0} (t : PlacedNodes K) (p n : ℕ) → NodesRecorded recs p t → nodes (unplaced t) ≤ n → height_in n recs (place_of t) ≡ height (unplaced t)
-  of_nodes_of (leaf_at q C c) p n h few = at_leaf n recs q (subst (λ (r : Record). r.kind < 2) (sym h.reads) (leaf_low c))
+  of_nodes_of (leaf_at q C c) p n h few = at_leaf n recs q (subst (λ (r : Record). is_leaf r.kind ≡ true) (sym h.reads) (leaf_low c))
   of_nodes_of (node_at shrinks q r C g a b) p n h few =
-      at_node n recs q (omega arith) (subst (λ (v : Record). 2 ≤ v.kind) (sym h.0.reads) (omega arith))
+      at_node n recs q (omega arith) (ap (λ (v : Record). is_leaf v.kind) h.0.reads)
       ∙ over_both (n - 1) q (place_of a) (place_of b) (height (unplaced a)) (height (unplaced b)) (ap (λ (v : Record). v.first) h.0.reads) (ap (λ (v : Record). v.second) h.0.reads)
       (of_nodes_of a q (n - 1) h.1 (omega arith)) (of_nodes_of b q (n - 1) h.2 (omega arith))
   of_nodes_of (node_at splits q r C g a b) p n h few =
-      at_node n recs q (omega arith) (subst (λ (v : Record). 2 ≤ v.kind) (sym h.0.reads) (omega arith))
+      at_node n recs q (omega arith) (ap (λ (v : Record). is_leaf v.kind) h.0.reads)
       ∙ over_both (n - 1) q (place_of a) (place_of b) (height (unplaced a)) (height (unplaced b)) (ap (λ (v : Record). v.first) h.0.reads) (ap (λ (v : Record). v.second) h.0.reads)
       (of_nodes_of a q (n - 1) h.1 (omega arith)) (of_nodes_of b q (n - 1) h.2 (omega arith))
 

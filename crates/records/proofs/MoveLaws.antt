@@ -4,7 +4,7 @@ use mathlib.Core.Option.{Option, some}
 use Rattle.std.proofs.lemmas.Bool.{false≢true}
 use Rattle.place.specs.Boxes.{Box, holds}
 use Rattle.quadtreap.specs.Tree.{Tree, outer}
-use Rattle.quadtreap.specs.Rank.{Rank}
+use Rattle.quadtreap.specs.declared.rank.Rank.{Rank}
 use Rattle.quadtreap.specs.Pairs.{is_leaf, exchanged, promote_left, promote_outer, node_rank, creation, is_none, plug}
 use Rattle.quadtreap.specs.Strike.{Step, done, least_of, with_outer_box, sink_right, sink_left, descend, strike_step, after, strike_in, to_left as tree_left, to_right as tree_right, to_outer as tree_outer, above_leaves as tree_low}
 use Rattle.records.specs.PlacedPairs.{PlacedPairs, placed_leaf, placed_pair, tree_in, rank, RanksStand, PairFrame, on_left_at, on_right_at, on_outer_at, put_in, frame}

@@ -4,7 +4,8 @@ use mathlib.Core.Option.{Option, none, some}
 use Rattle.records.specs.declared.record.Record.{Record}
 use Rattle.place.specs.Boxes.{Box}
 use Rattle.quadtreap.specs.Tree.{reading, box, Tree, outer}
-use Rattle.quadtreap.specs.Rank.{Rank, earlier}
+use Rattle.quadtreap.specs.declared.rank.Rank.{Rank}
+use Rattle.quadtreap.specs.Rank.{earlier}
 use Rattle.quadtreap.specs.Pairs.{exchanged, unranked, node_rank, ordered, plug_all}
 use Rattle.quadtreap.specs.Enter.{settle, settle_all}
 use Rattle.records.specs.PlacedNodes.{plug, LiesIn}

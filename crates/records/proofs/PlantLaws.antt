@@ -4,8 +4,10 @@ use mathlib.Core.Option.{none, some}
 use Rattle.records.specs.declared.record.BoxNumbers.{BoxNumbers}
 use Rattle.records.specs.declared.record.Record.{Record}
 use Rattle.records.specs.declared.places.FourPlaces.{FourPlaces}
+use Rattle.records.specs.declared.kind.Kind.TheVariants.{Reading as ReadingKind, Box as BoxKind, Shrink, Split}
 use Rattle.place.specs.Boxes.{Box, cut, point, smallest, half}
 use Rattle.quadtreap.specs.Tree.{Reading, Content, reading, box, leaf, point_of, box_in, extent}
+use Rattle.quadtreap.specs.declared.rank.Rank.{Rank}
 use Rattle.quadtreap.specs.Rank.{rank_of}
 use Rattle.quadtreap.specs.Pairs.{unranked}
 use Rattle.quadtreap.specs.Enter.{plant}
@@ -19,11 +21,11 @@ use Rattle.records.proofs.SettleLaws.{nodes_ordered, place_ordered}
 use Rattle.records.proofs.PairLaws.{tree_ordered, ranks_ordered}
 
 -- The table after a planting, from what is read and written on the way.
-pub plants_by : (recs joined ordered : List Record) (i k q : ℕ) (n : FourPlaces) (r : Record) (b : BoxNumbers) (e : Box) → r ≡ at recs i → b ≡ content_numbers r → e ≡ smallest (box_of b) (point k)
-    → joined ≡ joined_in recs i e k q n → ordered ≡ ordered_in joined n.shrink → ordered ≡ planted recs i k q n
-plants_by recs joined ordered i k q n r b e is is' on j o =
+pub plants_by : (recs joined ordered : List Record) (i : ℕ) (q : Rank) (n : FourPlaces) (r : Record) (b : BoxNumbers) (e : Box) → r ≡ at recs i → b ≡ content_numbers r → e ≡ smallest (box_of b) (point q.code)
+    → joined ≡ joined_in recs i e q n → ordered ≡ ordered_in joined n.shrink → ordered ≡ planted recs i q n
+plants_by recs joined ordered i q n r b e is is' on j o =
     o
-    ∙ ap (λ t. ordered_in t n.shrink) (j ∙ ap (λ v. joined_in recs i v k q n) (on ∙ ap (λ (v : BoxNumbers). smallest (box_of v) (point k)) (is' ∙ ap content_numbers is)))
+    ∙ ap (λ t. ordered_in t n.shrink) (j ∙ ap (λ v. joined_in recs i v q n) (on ∙ ap (λ (v : BoxNumbers). smallest (box_of v) (point q.code)) (is' ∙ ap content_numbers is)))
 
 module _ {K : Type 0} (recs : List Record) (f : List (NodeFrame K)) (i : ℕ) (C : Box) (p : Reading K) (n : FourPlaces) where
   abbrev pub new_box : Content K → Box
@@ -33,17 +35,17 @@ module _ {K : Type 0} (recs : List Record) (f : List (NodeFrame K)) (i : ℕ) (C
   abbrev halved_writes : ℕ → Content K → List Write
   halved_writes m c =
       write i (in_record (leaf_kind c) (cut m (extent c).code) (box_in c) 65535 65535 n.split (leaf_rank c))
-      ∷ write n.reading (in_record 0 (cut m p.code) none 65535 65535 n.split (rank_of p))
-      ∷ write n.outer (in_record 1 C (some (new_box c)) 65535 65535 n.shrink unranked)
-      ∷ write n.split (in_record 3 (new_box c) (box_in c) i n.reading n.shrink unranked)
-      ∷ write n.shrink (in_record 2 C (box_in c) n.split n.outer (above f) unranked)
+      ∷ write n.reading (in_record ReadingKind (cut m p.code) none 65535 65535 n.split (rank_of p))
+      ∷ write n.outer (in_record BoxKind C (some (new_box c)) 65535 65535 n.shrink unranked)
+      ∷ write n.split (in_record Split (new_box c) (box_in c) i n.reading n.shrink unranked)
+      ∷ write n.shrink (in_record Shrink C (box_in c) n.split n.outer (above f) unranked)
       ∷ []
 
   abbrev pub new_writes : Content K → List Write
   new_writes c = halved_writes (suc (new_box c).depth) c
 
   abbrev pub table : List Record
-  table = joined_in recs i (smallest (box_of (content_numbers (at recs i))) (point p.code)) p.code p.priority n
+  table = joined_in recs i (smallest (box_of (content_numbers (at recs i))) (point p.code)) (rank_of p) n
 
   halved : (c : Content K) → Lies recs i (record_of (above f) (leaf_at i C c)) → table ≡ wrote (halved_writes (min (suc (new_box c).depth) 32) c) (relinked recs (above f) i n.shrink)
   halved (reading r) h = let e = h.reads in simp e
@@ -86,9 +88,9 @@ module _ {K : Type 0} (recs : List Record) (f : List (NodeFrame K)) (i : ℕ) (C
           framed = h.framed;
         }
 
-    pub plants : LiesAmong (planted recs i p.code p.priority n) f (nodes_of (planted_at n i C c p))
+    pub plants : LiesAmong (planted recs i (rank_of p) n) f (nodes_of (planted_at n i C c p))
     plants =
-        subst (LiesAmong (planted recs i p.code p.priority n) f) (sym (nodes_ordered n.shrink n.split C (box_in c) (new_box c) (placed_leaf i (half (new_box c) (extent c)) c) (placed_leaf n.reading (half (new_box c) (point_of p)) (reading p)) (placed_leaf n.outer C (box (new_box c)))))
+        subst (LiesAmong (planted recs i (rank_of p) n) f) (sym (nodes_ordered n.shrink n.split C (box_in c) (new_box c) (placed_leaf i (half (new_box c) (extent c)) c) (placed_leaf n.reading (half (new_box c) (point_of p)) (reading p)) (placed_leaf n.outer C (box (new_box c)))))
         (orders table f n.shrink n.split unranked C (box_in c) (new_box c) _ _ _ joins)
 
 module _ {K : Type 0} where

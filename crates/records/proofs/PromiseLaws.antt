@@ -1,7 +1,9 @@
 -- The promises, from what the functions do to the table.
-use Rattle.std.proofs.Common.{◌≡◌, ℕ, ◌+◌, ◌≤◌, List, ◌∷◌, sym, refl, ap, ◌∙◌, subst, arith, length-set, get_or-set_other, get_or-set_same}
+use Rattle.std.proofs.Common.{◌≡◌, ℕ, ◌+◌, ◌≤◌, List, ◌∷◌, sym, refl, ap, subst, arith, length-set, get_or-set_other, get_or-set_same}
 use Rattle.records.specs.declared.record.Record.{Record}
 use Rattle.records.specs.declared.places.FourPlaces.{FourPlaces}
+use Rattle.quadtreap.specs.declared.rank.Rank.{Rank}
+use Rattle.quadtreap.specs.Rank.{rank_of}
 use Rattle.records.specs.PlacedNodes.{splits, node_at, one, occurs, blank, LiesIn}
 use Rattle.records.specs.Writes.{promoted_left, promoted_outer, ordered_in, settled_in, descended, planted, first_planted}
 use Rattle.records.specs.PlacedPairs.{placed_leaf, placed_pair, nodes_of, top_place, put_in_all, node_frames, ordered_at, planted_at, Free, four}
@@ -63,18 +65,18 @@ settled K recs s gs g t hg ht at h =
       same = same_whole (g ∷ gs) t recs _ (off_settle recs gs g t (lies_among recs (g ∷ gs) t h));
     }
 
-pub is_planted : (K : Type 0) (recs : List Record) (i k priority : ℕ) (n : FourPlaces) → Plants K recs (planted recs i k priority n) i k priority n
-is_planted K recs i k priority n gs C c p is is' h free small =
+pub is_planted : (K : Type 0) (recs : List Record) (i : ℕ) (q : Rank) (n : FourPlaces) → Plants K recs (planted recs i q n) i q n
+is_planted K recs i q n gs C c p is h free small =
     let f = lies_among recs gs (placed_leaf i C c) h in
     let whole : (j : ℕ) → occurs j (nodes_of (put_in_all gs (placed_leaf i C c))) ≡ occurs j (nodes_of (placed_leaf i C c)) + occurs_around j (node_frames gs) = whole_used gs (placed_leaf i C c) in
     let near : Free recs (placed_leaf i C c) n =
     record { shrink = free.shrink; split = free.split; reading = free.reading; outer = free.outer; low = free.low; apart = λ j. let q = free.apart j in let e = whole j in omega arith } in
-    let e : planted recs i p.code p.priority n ≡ planted recs i k priority n = ap (λ a. planted recs i a p.priority n) is ∙ ap (λ a. planted recs i k a n) is' in
+    let e : planted recs i (rank_of p) n ≡ planted recs i q n = ap (λ a. planted recs i a n) is in
     let new : (j : ℕ) → touched j (new_writes recs (node_frames gs) i C p n c) + occurs_around j (node_frames gs) ≤ 1 = λ j. let q = free.apart j in let e = whole j in omega arith in
     let used : ℕ → ℕ = λ j. four j n + occurs j (nodes_of (put_in_all gs (placed_leaf i C c))) in
     record {
       kept = subst (λ t. LiesIn t (nodes_of (put_in_all gs (planted_at n i C c p)))) e
-          (lies_whole (planted recs i p.code p.priority n) gs (planted_at n i C c p) (plants recs (node_frames gs) i C p n c f near new small));
+          (lies_whole (planted recs i (rank_of p) n) gs (planted_at n i C c p) (plants recs (node_frames gs) i C p n c f near new small));
       tree = tree_plant n i C c p;
       right = ranks_plant n i C c p;
       top = place_plant n i C c p;
@@ -83,10 +85,9 @@ is_planted K recs i k priority n gs C c p is is' h free small =
           (wider used (λ j. four j n + (one j i + occurs_around j (node_frames gs))) recs _ (λ j z. let q = whole j in omega arith) (off_plant recs (node_frames gs) i C p n c f near new small));
     }
 
-pub is_planted_first : (K : Type 0) (recs : List Record) (i k priority : ℕ) → PlantsFirst K recs (first_planted recs i k priority) i k priority
-is_planted_first K recs i k priority p is is' within low =
-    subst (λ a. PlantedFirst recs (first_planted recs i a priority) i p) is
-    (subst (λ b. PlantedFirst recs (first_planted recs i p.code b) i p) is'
+pub is_planted_first : (K : Type 0) (recs : List Record) (i : ℕ) (q : Rank) → PlantsFirst K recs (first_planted recs i q) i q
+is_planted_first K recs i q p is within low =
+    subst (λ a. PlantedFirst recs (first_planted recs i a) i p) is
     record {
       kept = record {
         laid = record { within = simp length-set within; reads = get_or-set_same recs i _ blank within };
@@ -97,7 +98,7 @@ is_planted_first K recs i k priority p is is' within low =
       tree = refl;
       right = tt;
       same = record { long = length-set recs i _; reads = λ j u. get_or-set_other recs i j _ blank (differ j i u) };
-    })
+    }
 
 -- the same of a table that is known to be what the function makes of another
 pub left_lifts : (K : Type 0) (recs exit : List Record) (x : ℕ) → exit ≡ promoted_left recs x → LeftRises K recs exit x
@@ -112,11 +113,11 @@ ordered_lifts K recs exit s e = subst (λ t. Orders K recs t s) (sym e) (is_orde
 pub descend_lifts : (K : Type 0) (recs : List Record) (root k n i : ℕ) → i ≡ descended n recs root k → Descends K recs root k n i
 descend_lifts K recs root k n i e = subst (Descends K recs root k n) (sym e) (is_reached K recs root k n)
 
-pub plant_lifts : (K : Type 0) (recs exit : List Record) (i k priority : ℕ) (n : FourPlaces) → exit ≡ planted recs i k priority n → Plants K recs exit i k priority n
-plant_lifts K recs exit i k priority n e = subst (λ t. Plants K recs t i k priority n) (sym e) (is_planted K recs i k priority n)
+pub plant_lifts : (K : Type 0) (recs exit : List Record) (i : ℕ) (q : Rank) (n : FourPlaces) → exit ≡ planted recs i q n → Plants K recs exit i q n
+plant_lifts K recs exit i q n e = subst (λ t. Plants K recs t i q n) (sym e) (is_planted K recs i q n)
 
-pub plant_first_lifts : (K : Type 0) (recs exit : List Record) (i k priority : ℕ) → exit ≡ first_planted recs i k priority → PlantsFirst K recs exit i k priority
-plant_first_lifts K recs exit i k priority e = subst (λ t. PlantsFirst K recs t i k priority) (sym e) (is_planted_first K recs i k priority)
+pub plant_first_lifts : (K : Type 0) (recs exit : List Record) (i : ℕ) (q : Rank) → exit ≡ first_planted recs i q → PlantsFirst K recs exit i q
+plant_first_lifts K recs exit i q e = subst (λ t. PlantsFirst K recs t i q) (sym e) (is_planted_first K recs i q)
 
 pub settle_lifts : (K : Type 0) (recs exit : List Record) (s top low : ℕ) → exit ≡ (settled_in recs s).table → top ≡ (settled_in recs s).top → low ≡ (settled_in recs s).low → Settles K recs exit s top low
 settle_lifts K recs exit s top low e e' e'' =

@@ -4,12 +4,14 @@ use mathlib.Core.Option.{Option, none, some}
 use Rattle.std.proofs.lemmas.Bool.{le-ltb}
 use Rattle.records.specs.declared.record.Record.{Record}
 use Rattle.records.specs.declared.record.BoxNumbers.{BoxNumbers}
+use Rattle.records.specs.declared.kind.Kind.TheVariants.{Shrink, Split}
 use Rattle.place.specs.Boxes.{Box}
 use Rattle.quadtreap.specs.Tree.{outer}
-use Rattle.quadtreap.specs.Rank.{Rank, earlier}
+use Rattle.quadtreap.specs.declared.rank.Rank.{Rank}
+use Rattle.quadtreap.specs.Rank.{earlier}
 use Rattle.quadtreap.specs.Pairs.{unranked}
 use Rattle.records.specs.PlacedNodes.{shrinks, in_record, inner_numbers, numbers_of, PlacedNodes, node_at, pair_at, ordered_nodes, carried, unplaced, place_of, occurs, Lies, NodesRecorded, NodeFrame, above}
-use Rattle.records.specs.Writes.{at, Write, write, wrote, with_parent, relinked, promoted_left, promoted_outer, ranked, swapped, ordered_in, rank_in}
+use Rattle.records.specs.Writes.{at, Write, write, wrote, with_parent, relinked, promoted_left, promoted_outer, ranked, swapped, ordered_in}
 use Rattle.records.proofs.FrameLaws.{touched, In, here, there, root_le, root_lies, root_outer, root_rank, root_sized, occurs_around, LiesAmong}
 use Rattle.records.proofs.WriteLaws.{stays, written, moves, holds_on, stays_in, written_in, holds_in}
 
@@ -18,9 +20,9 @@ module _ {K : Type 0} (recs : List Record) (f : List (NodeFrame K)) where
   module _ (x w y : ℕ) (r q : Rank) (C E B : Box) (i k : Option Box) (P o R O : PlacedNodes K) (h : LiesAmong recs f (pair_at x w r C i E (node_at shrinks y q B k P o) R O)) where
     abbrev pub left_writes : List Write
     left_writes =
-        write x (in_record 2 C (some (outer (unplaced P))) w (place_of O) y unranked)
-        ∷ write w (in_record 3 E (some (outer (unplaced P))) (place_of o) (place_of R) x unranked)
-        ∷ write y (in_record 2 C k (place_of P) x (above f) q)
+        write x (in_record Shrink C (some (outer (unplaced P))) w (place_of O) y unranked)
+        ∷ write w (in_record Split E (some (outer (unplaced P))) (place_of o) (place_of R) x unranked)
+        ∷ write y (in_record Shrink C k (place_of P) x (above f) q)
         ∷ write (place_of o) (with_parent (at recs (place_of o)) w)
         ∷ []
 
@@ -67,9 +69,9 @@ module _ {K : Type 0} (recs : List Record) (f : List (NodeFrame K)) where
   module _ (s x w : ℕ) (r q : Rank) (C B E : Box) (i k : Option Box) (P L R O : PlacedNodes K) (h : LiesAmong recs f (node_at shrinks s r C i P (pair_at x w q B k E L R O))) where
     abbrev pub outer_writes : List Write
     outer_writes =
-        write s (in_record 2 (outer (unplaced L)) i (place_of P) (place_of L) w r)
-        ∷ write x (in_record 2 B i w (place_of O) (above f) q)
-        ∷ write w (in_record 3 E i s (place_of R) x q)
+        write s (in_record Shrink (outer (unplaced L)) i (place_of P) (place_of L) w r)
+        ∷ write x (in_record Shrink B i w (place_of O) (above f) q)
+        ∷ write w (in_record Split E i s (place_of R) x q)
         ∷ write (place_of L) (with_parent (at recs (place_of L)) s)
         ∷ []
 
@@ -117,15 +119,15 @@ module _ {K : Type 0} (recs : List Record) (f : List (NodeFrame K)) where
     -- another rank
     module _ (q : Rank) where
       abbrev pub rank_writes : List Write
-      rank_writes = write s (in_record 2 C i w (place_of O) (above f) q) ∷ write w (in_record 3 E i (place_of L) (place_of R) s q) ∷ []
+      rank_writes = write s (in_record Shrink C i w (place_of O) (above f) q) ∷ write w (in_record Split E i (place_of L) (place_of R) s q) ∷ []
 
-      pub rank_computes : ranked recs s q.priority q.code ≡ wrote rank_writes recs
+      pub rank_computes : ranked recs s q ≡ wrote rank_writes recs
       rank_computes = let e1 = h.laid.0.reads in let e2 = h.laid.1.0.reads in simp (e1, e2)
 
       rank_apart : (j : ℕ) → touched j rank_writes + occurs_around j f ≤ 1
       rank_apart j = let n = h.once j in omega arith
 
-      pub ranks : LiesAmong (ranked recs s q.priority q.code) f (pair_at s w q C i E L R O)
+      pub ranks : LiesAmong (ranked recs s q) f (pair_at s w q C i E L R O)
       ranks =
           let l = h.laid in
           subst (λ t. LiesAmong t f (pair_at s w q C i E L R O)) (sym rank_computes)
@@ -148,21 +150,20 @@ module _ {K : Type 0} (recs : List Record) (f : List (NodeFrame K)) where
 
     -- left and right change places
     abbrev pub swap_writes : List Write
-    swap_writes = write s (in_record 2 C i w (place_of O) (above f) (carried R)) ∷ write w (in_record 3 E i (place_of R) (place_of L) s (carried R)) ∷ []
+    swap_writes = write s (in_record Shrink C i w (place_of O) (above f) (carried R)) ∷ write w (in_record Split E i (place_of R) (place_of L) s (carried R)) ∷ []
 
-    pub left_rank : rank_in (at recs (place_of L)) ≡ carried L
-    left_rank = ap rank_in (root_lies recs w L h.laid.1.1).reads ∙ root_rank w L
+    pub left_rank : (at recs (place_of L)).rank ≡ carried L
+    left_rank = ap (λ (v : Record). v.rank) (root_lies recs w L h.laid.1.1).reads ∙ root_rank w L
 
-    pub right_rank : rank_in (at recs (place_of R)) ≡ carried R
-    right_rank = ap rank_in (root_lies recs w R h.laid.1.2).reads ∙ root_rank w R
+    pub right_rank : (at recs (place_of R)).rank ≡ carried R
+    right_rank = ap (λ (v : Record). v.rank) (root_lies recs w R h.laid.1.2).reads ∙ root_rank w R
 
     pub swap_computes : swapped recs s ≡ wrote swap_writes recs
     swap_computes =
         let e1 = h.laid.0.reads in
         let e2 = h.laid.1.0.reads in
-        let e3 : (at recs (place_of R)).priority ≡ (carried R).priority = ap (λ (v : Rank). v.priority) right_rank in
-        let e4 : (at recs (place_of R)).code ≡ (carried R).code = ap (λ (v : Rank). v.code) right_rank in
-        simp (e1, e2, e3, e4)
+        let e3 = right_rank in
+        simp (e1, e2, e3)
 
     swap_apart : (j : ℕ) → touched j swap_writes + occurs_around j f ≤ 1
     swap_apart j = let n = h.once j in omega arith
@@ -191,26 +192,26 @@ module _ {K : Type 0} (recs : List Record) (f : List (NodeFrame K)) where
 
     -- in the order of the ranks
     abbrev pub by_ranks : BoxNumbers → Rank → Rank → List Record
-    by_ranks g a b = cond (ltb 32 g.depth) (cond (earlier b a) (swapped recs s) (ranked recs s a.priority a.code)) (ranked recs s 0 0)
+    by_ranks g a b = cond (ltb 32 g.depth) (cond (earlier b a) (swapped recs s) (ranked recs s a)) (ranked recs s unranked)
 
     pub ordered_computes : ordered_in recs s ≡ by_ranks (inner_numbers i) (carried L) (carried R)
     ordered_computes =
         let e1 = h.laid.0.reads in
-        let e2 : at recs (at recs s).first ≡ in_record 3 E i (place_of L) (place_of R) s r = ap (λ (v : Record). at recs v.first) e1 ∙ h.laid.1.0.reads in
-        let a : rank_in (at recs (at recs (at recs s).first).first) ≡ carried L = ap (λ (v : Record). rank_in (at recs v.first)) e2 ∙ left_rank in
-        let b : rank_in (at recs (at recs (at recs s).first).second) ≡ carried R = ap (λ (v : Record). rank_in (at recs v.second)) e2 ∙ right_rank in
-        ap (λ (v : Record). by_ranks v.inner (rank_in (at recs (at recs (at recs s).first).first)) (rank_in (at recs (at recs (at recs s).first).second))) e1
-        ∙ ap (λ (v : Rank). by_ranks (inner_numbers i) v (rank_in (at recs (at recs (at recs s).first).second))) a
+        let e2 : at recs (at recs s).first ≡ in_record Split E i (place_of L) (place_of R) s r = ap (λ (v : Record). at recs v.first) e1 ∙ h.laid.1.0.reads in
+        let a : (at recs (at recs (at recs s).first).first).rank ≡ carried L = ap (λ (v : Record). (at recs v.first).rank) e2 ∙ left_rank in
+        let b : (at recs (at recs (at recs s).first).second).rank ≡ carried R = ap (λ (v : Record). (at recs v.second).rank) e2 ∙ right_rank in
+        ap (λ (v : Record). by_ranks v.inner ((at recs (at recs (at recs s).first).first).rank) ((at recs (at recs (at recs s).first).second).rank)) e1
+        ∙ ap (λ (v : Rank). by_ranks (inner_numbers i) v ((at recs (at recs (at recs s).first).second).rank)) a
         ∙ ap (λ (v : Rank). by_ranks (inner_numbers i) (carried L) v) b
 
   pub orders : (s w : ℕ) (r : Rank) (C : Box) (i : Option Box) (E : Box) (L R O : PlacedNodes K) → LiesAmong recs f (pair_at s w r C i E L R O) → LiesAmong (ordered_in recs s) f (ordered_nodes s w C i E L R O)
   orders s w r C none E L R O h =
       subst (λ t. LiesAmong t f (ordered_nodes s w C none E L R O)) (sym (ordered_computes s w r C none E L R O h))
-      (elim (earlier (carried R) (carried L)) as (λ b. LiesAmong (cond b (swapped recs s) (ranked recs s (carried L).priority (carried L).code)) f (cond b (pair_at s w (carried R) C none E R L O) (pair_at s w (carried L) C none E L R O))) [
+      (elim (earlier (carried R) (carried L)) as (λ b. LiesAmong (cond b (swapped recs s) (ranked recs s (carried L))) f (cond b (pair_at s w (carried R) C none E R L O) (pair_at s w (carried L) C none E L R O))) [
         | true ↦ exchanges s w r C none E L R O h
         | false ↦ ranks s w r C none E L R O h (carried L)
       ])
   orders s w r C (some I) E L R O h =
       let low : ltb 32 I.depth ≡ false = le-ltb 32 I.depth h.sized.1 in
-      subst (λ t. LiesAmong t f (pair_at s w unranked C (some I) E L R O)) (sym (ordered_computes s w r C (some I) E L R O h ∙ ap (λ b. cond b (cond (earlier (carried R) (carried L)) (swapped recs s) (ranked recs s (carried L).priority (carried L).code)) (ranked recs s 0 0)) low))
+      subst (λ t. LiesAmong t f (pair_at s w unranked C (some I) E L R O)) (sym (ordered_computes s w r C (some I) E L R O h ∙ ap (λ b. cond b (cond (earlier (carried R) (carried L)) (swapped recs s) (ranked recs s (carried L))) (ranked recs s unranked)) low))
       (ranks s w r C (some I) E L R O h unranked)

@@ -4,7 +4,7 @@ use mathlib.Core.Option.{Option, none, some}
 use Rattle.std.proofs.lemmas.Bool.{false≢true}
 use Rattle.place.specs.Boxes.{Box}
 use Rattle.quadtreap.specs.Tree.{outer, nodes}
-use Rattle.quadtreap.specs.Rank.{Rank}
+use Rattle.quadtreap.specs.declared.rank.Rank.{Rank}
 use Rattle.quadtreap.specs.Pairs.{inner_box, unranked, node_rank, is_none, InnerBoxes, Paired}
 use Rattle.quadtreap.specs.Strike.{least_of, node_rank_after}
 use Rattle.records.specs.PlacedPairs.{PlacedPairs, placed_leaf, placed_pair, tree_in, rank, rank_at, RanksStand}

@@ -4,7 +4,7 @@ use mathlib.Core.Option.{Option}
 use Rattle.records.specs.declared.record.Record.{Record}
 use Rattle.place.specs.Boxes.{Box}
 use Rattle.quadtreap.specs.Tree.{Content, box_in}
-use Rattle.quadtreap.specs.Rank.{Rank}
+use Rattle.quadtreap.specs.declared.rank.Rank.{Rank}
 use Rattle.records.specs.PlacedNodes.{PlacedNodes, leaf_at, pair_at, one, occurs, Shallow, record_of, Lies, NodeFrame, above}
 use Rattle.records.specs.Writes.{Write, write, wrote, relinked, replaced_in}
 use Rattle.records.specs.Elsewhere.{Elsewhere}

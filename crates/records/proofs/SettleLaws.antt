@@ -5,24 +5,26 @@ use Rattle.std.proofs.lemmas.Bool.{eq-eqb, ne_eqb}
 use Rattle.records.specs.declared.record.Record.{Record}
 use Rattle.place.specs.Boxes.{Box}
 use Rattle.quadtreap.specs.Tree.{Content, reading, box, outer}
-use Rattle.quadtreap.specs.Rank.{Rank, earlier}
+use Rattle.quadtreap.specs.declared.rank.Rank.{Rank}
+use Rattle.quadtreap.specs.Rank.{earlier}
 use Rattle.quadtreap.specs.Pairs.{unranked}
+use Rattle.records.specs.Kinds.{is_pair, is_split}
 use Rattle.records.specs.PlacedNodes.{shrinks, splits, leaf_kind, PlacedNodes, leaf_at, node_at, pair_at, ordered_nodes, carried, unplaced, place_of, record_of, NodesRecorded, NodeFrame, above}
-use Rattle.records.specs.Writes.{at, rank_in, promoted_left, promoted_outer, ordered_in, made_by, earlier_in, Rise, risen, settled_in}
+use Rattle.records.specs.Writes.{at, promoted_left, promoted_outer, ordered_in, made_by, earlier_in, Rise, risen, settled_in}
 use Rattle.records.specs.PlacedPairs.{PlacedPairs, placed_leaf, placed_pair, nodes_of, top_place, rank, PairFrame, on_left_at, on_right_at, on_outer_at, node_frames, ordered_at, made_before, over_left, over_outer, settled_at, risen_over}
 use Rattle.records.proofs.FrameLaws.{differ, root_le, root_occurs, root_lies, root_rank, LiesAmong, up_first, up_second}
 use Rattle.records.proofs.PromoteLaws.{rises_left, rises_outer, orders}
 
-pub earlier_than_pairs : (recs : List Record) (j x : ℕ) (A B : Rank) → (at recs j).kind ≡ 2 → (at recs x).kind ≡ 2 → rank_in (made_by recs (at recs j)) ≡ A → rank_in (made_by recs (at recs x)) ≡ B → earlier_in recs j x ≡ earlier A B
+pub earlier_than_pairs : (recs : List Record) (j x : ℕ) (A B : Rank) → is_pair (at recs j).kind ≡ true → is_pair (at recs x).kind ≡ true → (made_by recs (at recs j)).rank ≡ A → (made_by recs (at recs x)).rank ≡ B → earlier_in recs j x ≡ earlier A B
 earlier_than_pairs recs j x A B kj kx a b =
-    ap (λ v. cond v (cond (eqb (at recs x).kind 2) (earlier (rank_in (made_by recs (at recs j))) (rank_in (made_by recs (at recs x)))) true) false) (ap (λ n. eqb n 2) kj)
-    ∙ ap (λ v. cond v (earlier (rank_in (made_by recs (at recs j))) (rank_in (made_by recs (at recs x)))) true) (ap (λ n. eqb n 2) kx)
-    ∙ ap (λ v. earlier v (rank_in (made_by recs (at recs x)))) a ∙ ap (earlier A) b
+    ap (λ v. cond v (cond (is_pair (at recs x).kind) (earlier ((made_by recs (at recs j)).rank) ((made_by recs (at recs x)).rank)) true) false) kj
+    ∙ ap (λ v. cond v (earlier ((made_by recs (at recs j)).rank) ((made_by recs (at recs x)).rank)) true) kx
+    ∙ ap (λ v. earlier v ((made_by recs (at recs x)).rank)) a ∙ ap (earlier A) b
 
 -- the way that the step goes
 abbrev way : List Record → ℕ → ℕ → Record → Rise
 way recs s up rp =
-    cond (eqb rp.kind 3)
+    cond (is_split rp.kind)
     (cond (eqb rp.first s)
     (cond (earlier_in recs s rp.parent) (risen (ordered_in (promoted_left recs rp.parent) s) s rp.parent) (risen (ordered_in recs rp.parent) rp.parent 65535))
     (risen (ordered_in recs rp.parent) rp.parent 65535))
@@ -48,32 +50,32 @@ module _ (t : List Record) (s : ℕ) (ru rp : Record) (is : ru ≡ at t s) (is' 
   abbrev by_tests : Bool → Bool → Bool → Bool → Rise
   by_tests split' first' left' outer' = cond split' (cond first' (cond left' risen_left stays_below) stays_below) (cond outer' risen_outer (risen t ru.parent 65535))
 
-  reads_way : settled_in t s ≡ by_tests (eqb rp.kind 3) (eqb rp.first s) (earlier_in t s rp.parent) (earlier_in t s ru.parent)
+  reads_way : settled_in t s ≡ by_tests (is_split rp.kind) (eqb rp.first s) (earlier_in t s rp.parent) (earlier_in t s ru.parent)
   reads_way = ap (λ (u : Record). way t s u.parent (at t u.parent)) (sym is) ∙ ap (way t s ru.parent) (sym is')
 
-  not_split : rp.kind ≢ 3 → settled_in t s ≡ cond (earlier_in t s ru.parent) risen_outer (risen t ru.parent 65535)
-  not_split far = reads_way ∙ ap (λ b. by_tests b (eqb rp.first s) (earlier_in t s rp.parent) (earlier_in t s ru.parent)) (ne_eqb rp.kind 3 far)
+  not_split : is_split rp.kind ≡ false → settled_in t s ≡ cond (earlier_in t s ru.parent) risen_outer (risen t ru.parent 65535)
+  not_split far = reads_way ∙ ap (λ b. by_tests b (eqb rp.first s) (earlier_in t s rp.parent) (earlier_in t s ru.parent)) far
 
-  pub over_outer_lem : rp.kind ≢ 3 → earlier_in t s ru.parent ≡ true → settled_in t s ≡ risen_outer
+  pub over_outer_lem : is_split rp.kind ≡ false → earlier_in t s ru.parent ≡ true → settled_in t s ≡ risen_outer
   over_outer_lem far yes' = not_split far ∙ ap (λ b. cond b risen_outer (risen t ru.parent 65535)) yes'
 
-  pub under_outer : rp.kind ≢ 3 → earlier_in t s ru.parent ≡ false → settled_in t s ≡ risen t ru.parent 65535
+  pub under_outer : is_split rp.kind ≡ false → earlier_in t s ru.parent ≡ false → settled_in t s ≡ risen t ru.parent 65535
   under_outer far no' = not_split far ∙ ap (λ b. cond b risen_outer (risen t ru.parent 65535)) no'
 
-  at_split : rp.kind ≡ 3 → settled_in t s ≡ cond (eqb rp.first s) (cond (earlier_in t s rp.parent) risen_left stays_below) stays_below
-  at_split kind = reads_way ∙ ap (λ b. by_tests b (eqb rp.first s) (earlier_in t s rp.parent) (earlier_in t s ru.parent)) (eq-eqb rp.kind 3 kind)
+  at_split : is_split rp.kind ≡ true → settled_in t s ≡ cond (eqb rp.first s) (cond (earlier_in t s rp.parent) risen_left stays_below) stays_below
+  at_split kind = reads_way ∙ ap (λ b. by_tests b (eqb rp.first s) (earlier_in t s rp.parent) (earlier_in t s ru.parent)) kind
 
-  pub over_left_lem : rp.kind ≡ 3 → rp.first ≡ s → earlier_in t s rp.parent ≡ true → settled_in t s ≡ risen_left
+  pub over_left_lem : is_split rp.kind ≡ true → rp.first ≡ s → earlier_in t s rp.parent ≡ true → settled_in t s ≡ risen_left
   over_left_lem kind first' yes' =
       at_split kind ∙ ap (λ b. cond b (cond (earlier_in t s rp.parent) risen_left stays_below) stays_below) (eq-eqb rp.first s first')
       ∙ ap (λ b. cond b risen_left stays_below) yes'
 
-  pub under_left : rp.kind ≡ 3 → earlier_in t s rp.parent ≡ false → settled_in t s ≡ stays_below
+  pub under_left : is_split rp.kind ≡ true → earlier_in t s rp.parent ≡ false → settled_in t s ≡ stays_below
   under_left kind no' =
       at_split kind ∙ ap (λ b. cond (eqb rp.first s) (cond b risen_left stays_below) stays_below) no'
       ∙ (elim (eqb rp.first s) as (λ b. cond b stays_below stays_below ≡ stays_below) [ true ↦ refl | false ↦ refl ])
 
-  pub at_right : rp.kind ≡ 3 → rp.first ≢ s → settled_in t s ≡ stays_below
+  pub at_right : is_split rp.kind ≡ true → rp.first ≢ s → settled_in t s ≡ stays_below
   at_right kind far = at_split kind ∙ ap (λ b. cond b (cond (earlier_in t s rp.parent) risen_left stays_below) stays_below) (ne_eqb rp.first s far)
 
 module _ {K : Type 0} where
@@ -93,30 +95,30 @@ module _ {K : Type 0} where
 
   module _ (recs : List Record) where
     -- which of two was made earlier
-    pub made : (p s w : ℕ) (r : Rank) (C : Box) (i : Option Box) (E : Box) (L R O : PlacedNodes K) → NodesRecorded recs p (pair_at s w r C i E L R O) → rank_in (made_by recs (at recs s)) ≡ carried R
+    pub made : (p s w : ℕ) (r : Rank) (C : Box) (i : Option Box) (E : Box) (L R O : PlacedNodes K) → NodesRecorded recs p (pair_at s w r C i E L R O) → (made_by recs (at recs s)).rank ≡ carried R
     made p s w r C i E L R O h =
-        ap (λ (v : Record). rank_in (at recs (at recs v.first).second)) h.0.reads
-        ∙ ap (λ (v : Record). rank_in (at recs v.second)) h.1.0.reads
-        ∙ ap rank_in (root_lies recs w R h.1.2).reads ∙ root_rank w R
+        ap (λ (v : Record). (at recs (at recs v.first).second).rank) h.0.reads
+        ∙ ap (λ (v : Record). (at recs v.second).rank) h.1.0.reads
+        ∙ ap (λ (v : Record). v.rank) (root_lies recs w R h.1.2).reads ∙ root_rank w R
 
-    leaf_low : (c : Content K) → eqb (leaf_kind c) 2 ≡ false
+    leaf_low : (c : Content K) → is_pair (leaf_kind c) ≡ false
     leaf_low (reading r) = refl
     leaf_low (box I) = refl
 
     pub earlier_than_leaf : (p j x : ℕ) (C : Box) (c : Content K) → NodesRecorded recs p (leaf_at j C c) → earlier_in recs j x ≡ false
     earlier_than_leaf p j x C c h =
-        ap (λ b. cond b (cond (eqb (at recs x).kind 2) (earlier (rank_in (made_by recs (at recs j))) (rank_in (made_by recs (at recs x)))) true) false)
-        (ap (λ (v : Record). eqb v.kind 2) h.reads ∙ leaf_low c)
+        ap (λ b. cond b (cond (is_pair (at recs x).kind) (earlier ((made_by recs (at recs j)).rank) ((made_by recs (at recs x)).rank)) true) false)
+        (ap (λ (v : Record). is_pair v.kind) h.reads ∙ leaf_low c)
 
-    pub earlier_than_over : (p j x : ℕ) (A : Rank) (t : PlacedNodes K) → (at recs j).kind ≡ 2 → rank_in (made_by recs (at recs j)) ≡ A → (C : Box) (c : Content K) → NodesRecorded recs p (leaf_at x C c) → earlier_in recs j x ≡ true
+    pub earlier_than_over : (p j x : ℕ) (A : Rank) (t : PlacedNodes K) → is_pair (at recs j).kind ≡ true → (made_by recs (at recs j)).rank ≡ A → (C : Box) (c : Content K) → NodesRecorded recs p (leaf_at x C c) → earlier_in recs j x ≡ true
     earlier_than_over p j x A t kind is C c h =
-        ap (λ b. cond b (cond (eqb (at recs x).kind 2) (earlier (rank_in (made_by recs (at recs j))) (rank_in (made_by recs (at recs x)))) true) false) (ap (λ n. eqb n 2) kind)
-        ∙ ap (λ b. cond b (earlier (rank_in (made_by recs (at recs j))) (rank_in (made_by recs (at recs x)))) true) (ap (λ (v : Record). eqb v.kind 2) h.reads ∙ leaf_low c)
+        ap (λ b. cond b (cond (is_pair (at recs x).kind) (earlier ((made_by recs (at recs j)).rank) ((made_by recs (at recs x)).rank)) true) false) kind
+        ∙ ap (λ b. cond b (earlier ((made_by recs (at recs j)).rank) ((made_by recs (at recs x)).rank)) true) (ap (λ (v : Record). is_pair v.kind) h.reads ∙ leaf_low c)
 
     pub made_before_lem : (p q s w : ℕ) (r : Rank) (C : Box) (i : Option Box) (E : Box) (L R O : PlacedNodes K) (t D : PlacedPairs K) → nodes_of D ≡ R → NodesRecorded recs p (nodes_of t) → NodesRecorded recs q (pair_at s w r C i E L R O) → earlier_in recs (top_place t) s ≡ made_before t D
     made_before_lem p q s w r C i E L R O (placed_leaf j B c) D is h g = earlier_than_leaf p j s B c h
     made_before_lem p q s w r C i E L R O (placed_pair y v a B k F A G o) D is h g =
-        earlier_than_pairs recs y s (rank G) (rank D) (ap (λ (z : Record). z.kind) h.0.reads) (ap (λ (z : Record). z.kind) g.0.reads)
+        earlier_than_pairs recs y s (rank G) (rank D) (ap (λ (z : Record). is_pair z.kind) h.0.reads) (ap (λ (z : Record). is_pair z.kind) g.0.reads)
         (made p y v a B k F (nodes_of A) (nodes_of G) (nodes_of o) h) (made q s w r C i E L R O g ∙ ap carried (sym is))
 
     goes : (f : List (NodeFrame K)) (t : PlacedNodes K) (rp : Record) → NodesRecorded recs (above f) t → at recs (above f) ≡ rp → settled_in recs (place_of t) ≡ way recs (place_of t) (above f) rp

@@ -6,13 +6,15 @@ use Rattle.records.specs.declared.record.Record.{Record}
 use Rattle.records.specs.declared.record.BoxNumbers.{BoxNumbers}
 use Rattle.records.specs.declared.places.FourPlaces.{FourPlaces}
 use Rattle.records.specs.declared.places.Sinking.TheVariants.{On, Done, Lost}
+use Rattle.records.specs.declared.kind.Kind.TheVariants.{Shrink, Split}
 use Rattle.place.specs.Boxes.{Box, holds}
 use Rattle.quadtreap.specs.Tree.{Content, reading, box, outer}
-use Rattle.quadtreap.specs.Rank.{Rank}
+use Rattle.quadtreap.specs.declared.rank.Rank.{Rank}
 use Rattle.quadtreap.specs.Pairs.{unranked, earlier_than, is_none}
 use Rattle.quadtreap.specs.Strike.{least_of}
+use Rattle.records.specs.Kinds.{is_leaf, is_pair}
 use Rattle.records.specs.PlacedNodes.{shrinks, splits, inner_numbers, in_record, leaf_kind, PlacedNodes, leaf_at, node_at, pair_at, occurs, Shallow, Sized, NodesRecorded, above}
-use Rattle.records.specs.Writes.{at, box_of, rank_in, promoted_left, promoted_outer, ranked, swapped, earlier_in, least_in, above_leaves_in, replaced_in, Sink, sinks, raised_outer, sunk_right, sunk_left, child_toward, sunk_pair, sunk_in}
+use Rattle.records.specs.Writes.{at, box_of, promoted_left, promoted_outer, ranked, swapped, earlier_in, least_in, above_leaves_in, replaced_in, Sink, sinks, raised_outer, sunk_right, sunk_left, child_toward, sunk_pair, sunk_in}
 use Rattle.records.specs.PlacedPairs.{PlacedPairs, placed_leaf, placed_pair, nodes_of, tree_in, top_place, rank, rank_at, PairFrame, on_left_at, node_frames}
 use Rattle.records.specs.Elsewhere.{Elsewhere}
 use Rattle.records.specs.StrikeMoves.{StrikeMove, finished, onward, lost, move_of, made_at, is_leaf_at, replaced_at, Pair, whole, above_leaves, freed, to_left, to_right, to_outer, left_over, outer_over, exchanged_at, move_right, move_left, move_toward, move_pair}
@@ -49,7 +51,7 @@ module _ {K : Type 0} where
   either recs used gs true x y v w p q = p refl
   either recs used gs false x y v w p q = q refl
 
-  leaf_is : (c : Content K) → ltb (leaf_kind c) 2 ≡ true
+  leaf_is : (c : Content K) → is_leaf (leaf_kind c) ≡ true
   leaf_is (reading r) = refl
   leaf_is (box I) = refl
 
@@ -58,9 +60,9 @@ module _ {K : Type 0} where
     pub earlier_than_is : (p q : ℕ) (a b : PlacedPairs K) → NodesRecorded recs p (nodes_of a) → NodesRecorded recs q (nodes_of b) → earlier_in recs (top_place a) (top_place b) ≡ earlier_than (made_at a) (made_at b)
     earlier_than_is p q (placed_leaf j C c) b ha hb = earlier_than_leaf recs p j (top_place b) C c ha
     earlier_than_is p q (placed_pair s w r C i E L R O) (placed_leaf j B c) ha hb =
-        earlier_than_over recs q s j (rank R) (nodes_of R) (ap (λ (v : Record). v.kind) ha.0.reads) (made recs p s w r C i E (nodes_of L) (nodes_of R) (nodes_of O) ha) B c hb
+        earlier_than_over recs q s j (rank R) (nodes_of R) (ap (λ (v : Record). is_pair v.kind) ha.0.reads) (made recs p s w r C i E (nodes_of L) (nodes_of R) (nodes_of O) ha) B c hb
     earlier_than_is p q (placed_pair s w r C i E L R O) (placed_pair y v g B k F A D o) ha hb =
-        earlier_than_pairs recs s y (rank R) (rank D) (ap (λ (v : Record). v.kind) ha.0.reads) (ap (λ (v : Record). v.kind) hb.0.reads)
+        earlier_than_pairs recs s y (rank R) (rank D) (ap (λ (v : Record). is_pair v.kind) ha.0.reads) (ap (λ (v : Record). is_pair v.kind) hb.0.reads)
         (made recs p s w r C i E (nodes_of L) (nodes_of R) (nodes_of O) ha) (made recs q y v g B k F (nodes_of A) (nodes_of D) (nodes_of o) hb)
 
     pub least_is : (p q m : ℕ) (a b c : PlacedPairs K) → NodesRecorded recs p (nodes_of a) → NodesRecorded recs q (nodes_of b) → NodesRecorded recs m (nodes_of c) → least_in recs (top_place a) (top_place b) (top_place c) ≡ least_of (made_at a) (made_at b) (made_at c)
@@ -69,12 +71,12 @@ module _ {K : Type 0} where
         ∙ ap (λ v. cond (earlier_than (made_at a) (made_at b)) v false) (earlier_than_is p m a c ha hc)
         ∙ and_cond (earlier_than (made_at a) (made_at b)) (earlier_than (made_at a) (made_at c))
 
-    leaf_reads : (p : ℕ) (t : PlacedPairs K) → NodesRecorded recs p (nodes_of t) → ltb (at recs (top_place t)).kind 2 ≡ is_leaf_at t
-    leaf_reads p (placed_leaf j C c) h = ap (λ (v : Record). ltb v.kind 2) h.reads ∙ leaf_is c
-    leaf_reads p (placed_pair s w r C i E L R O) h = ap (λ (v : Record). ltb v.kind 2) h.0.reads
+    leaf_reads : (p : ℕ) (t : PlacedPairs K) → NodesRecorded recs p (nodes_of t) → is_leaf (at recs (top_place t)).kind ≡ is_leaf_at t
+    leaf_reads p (placed_leaf j C c) h = ap (λ (v : Record). is_leaf v.kind) h.reads ∙ leaf_is c
+    leaf_reads p (placed_pair s w r C i E L R O) h = ap (λ (v : Record). is_leaf v.kind) h.0.reads
 
-    pub rank_is : (p : ℕ) (t : PlacedNodes K) → NodesRecorded recs p t → rank_in (at recs (Rattle.records.specs.PlacedNodes.place_of t)) ≡ Rattle.records.specs.PlacedNodes.carried t
-    rank_is p t h = ap rank_in (root_lies recs p t h).reads ∙ root_rank p t
+    pub rank_is : (p : ℕ) (t : PlacedNodes K) → NodesRecorded recs p t → (at recs (Rattle.records.specs.PlacedNodes.place_of t)).rank ≡ Rattle.records.specs.PlacedNodes.carried t
+    rank_is p t h = ap (λ (v : Record). v.rank) (root_lies recs p t h).reads ∙ root_rank p t
 
     -- the left child rises, and the pair goes on below it
     over_left_lem : (gs : List (PairFrame K)) (s w : ℕ) (r : Rank) (C : Box) (i : Option Box) (E : Box) (L R O : PlacedPairs K) (b c : Option Rank) → LiesAmong recs (node_frames gs) (nodes_of (placed_pair s w r C i E L R O)) → least_of (made_at L) b c ≡ true
@@ -88,23 +90,23 @@ module _ {K : Type 0} where
     )
 
     -- the outer child rises, takes a rank, and the pair goes on below it
-    pub raised_is : (gs : List (PairFrame K)) (s w : ℕ) (r : Rank) (C : Box) (i : Option Box) (E : Box) (L R O : PlacedPairs K) (z : ℕ) (a : Rank) → LiesAmong recs (node_frames gs) (nodes_of (placed_pair s w r C i E L R O)) → rank_in (at recs z) ≡ a
-        → raised_outer recs s z ≡ ranked (promoted_outer recs s) (top_place O) (rank_at i a).priority (rank_at i a).code
+    pub raised_is : (gs : List (PairFrame K)) (s w : ℕ) (r : Rank) (C : Box) (i : Option Box) (E : Box) (L R O : PlacedPairs K) (z : ℕ) (a : Rank) → LiesAmong recs (node_frames gs) (nodes_of (placed_pair s w r C i E L R O)) → (at recs z).rank ≡ a
+        → raised_outer recs s z ≡ ranked (promoted_outer recs s) (top_place O) (rank_at i a)
     raised_is gs s w r C none E L R O z a h is =
-        let P : BoxNumbers → ℕ → Rank → List Record = λ g o q. cond (ltb 32 g.depth) (ranked (promoted_outer recs s) o q.priority q.code) (ranked (promoted_outer recs s) o 0 0) in
-        ap (λ (v : Record). P v.inner v.second (rank_in (at recs z))) h.laid.0.reads ∙ ap (P (inner_numbers none) (top_place O)) is
+        let P : BoxNumbers → ℕ → Rank → List Record = λ g o q. cond (ltb 32 g.depth) (ranked (promoted_outer recs s) o q) (ranked (promoted_outer recs s) o unranked) in
+        ap (λ (v : Record). P v.inner v.second ((at recs z).rank)) h.laid.0.reads ∙ ap (P (inner_numbers none) (top_place O)) is
     raised_is gs s w r C (some I) E L R O z a h is =
-        let P : BoxNumbers → ℕ → Rank → List Record = λ g o q. cond (ltb 32 g.depth) (ranked (promoted_outer recs s) o q.priority q.code) (ranked (promoted_outer recs s) o 0 0) in
-        ap (λ (v : Record). P v.inner v.second (rank_in (at recs z))) h.laid.0.reads
-        ∙ ap (λ b. cond b (ranked (promoted_outer recs s) (top_place O) (rank_in (at recs z)).priority (rank_in (at recs z)).code) (ranked (promoted_outer recs s) (top_place O) 0 0)) (le-ltb 32 I.depth h.sized.1)
+        let P : BoxNumbers → ℕ → Rank → List Record = λ g o q. cond (ltb 32 g.depth) (ranked (promoted_outer recs s) o q) (ranked (promoted_outer recs s) o unranked) in
+        ap (λ (v : Record). P v.inner v.second ((at recs z).rank)) h.laid.0.reads
+        ∙ ap (λ b. cond b (ranked (promoted_outer recs s) (top_place O) (at recs z).rank) (ranked (promoted_outer recs s) (top_place O) unranked)) (le-ltb 32 I.depth h.sized.1)
 
-    over_outer_lem : (gs : List (PairFrame K)) (s w : ℕ) (r : Rank) (C : Box) (i : Option Box) (E : Box) (L R O : PlacedPairs K) (b c : Option Rank) (z : ℕ) (a : Rank) → LiesAmong recs (node_frames gs) (nodes_of (placed_pair s w r C i E L R O)) → rank_in (at recs z) ≡ a → least_of (made_at O) b c ≡ true
+    over_outer_lem : (gs : List (PairFrame K)) (s w : ℕ) (r : Rank) (C : Box) (i : Option Box) (E : Box) (L R O : PlacedPairs K) (b c : Option Rank) (z : ℕ) (a : Rank) → LiesAmong recs (node_frames gs) (nodes_of (placed_pair s w r C i E L R O)) → (at recs z).rank ≡ a → least_of (made_at O) b c ≡ true
         → Moved recs (used_by (node_frames gs) (nodes_of (placed_pair s w r C i E L R O))) gs (outer_over (record { shrink = s; split = w; rank = r; outer = C; inner = i; box = E; left = L; right = R; out = O }) O a) (sinks (raised_outer recs s z) (On s))
     over_outer_lem gs s w r C i E L R (placed_leaf j B d) b c z a h is yes' = absurd (false≢true yes')
     over_outer_lem gs s w r C i E L R (placed_pair y v q B k F A D o) b c z a h is yes' =
         let u : PlacedPairs K = placed_pair s w r (outer (tree_in A)) i E L R A in
         let up = rises_outer recs (node_frames gs) s y v r q C B F i k (node_at splits w r E i (nodes_of L) (nodes_of R)) (nodes_of A) (nodes_of D) (nodes_of o) h in
-        let t : List Record = ranked (promoted_outer recs s) y (rank_at i a).priority (rank_at i a).code in
+        let t : List Record = ranked (promoted_outer recs s) y (rank_at i a) in
         let named : LiesAmong t (node_frames gs) (pair_at y v (rank_at i a) B i F (nodes_of u) (nodes_of D) (nodes_of o)) = ranks (promoted_outer recs s) (node_frames gs) y v q B i F (nodes_of u) (nodes_of D) (nodes_of o) up (rank_at i a) in
         let low : LiesAmong t (node_frames (on_left_at y v (rank_at i a) B i F D o ∷ gs)) (nodes_of u) =
         down_first t _ splits v (rank_at i a) F i (nodes_of u) (nodes_of D) (down_first t (node_frames gs) shrinks y (rank_at i a) B i (node_at splits v (rank_at i a) F i (nodes_of u) (nodes_of D)) (nodes_of o) named) in
@@ -173,10 +175,10 @@ module _ {K : Type 0} where
     c = made_at x.out
 
     abbrev pub rs : Record
-    rs = in_record 2 x.outer x.inner x.split o (above (node_frames gs)) x.rank
+    rs = in_record Shrink x.outer x.inner x.split o (above (node_frames gs)) x.rank
 
     abbrev pub rw : Record
-    rw = in_record 3 x.box x.inner l r s x.rank
+    rw = in_record Split x.box x.inner l r s x.rank
 
     pub at_s : at recs s ≡ rs
     at_s = h.laid.0.reads
@@ -187,10 +189,10 @@ module _ {K : Type 0} where
     low_is : above_leaves_in recs s ≡ above_leaves x
     low_is =
         let P : Bool → Bool → Bool → Bool = λ u v w. cond u (cond v w false) false in
-        ap (λ (v : Record). P (ltb (at recs (at recs v.first).first).kind 2) (ltb (at recs (at recs v.first).second).kind 2) (ltb (at recs v.second).kind 2)) at_s
-        ∙ ap (λ (v : Record). P (ltb (at recs v.first).kind 2) (ltb (at recs v.second).kind 2) (ltb (at recs o).kind 2)) at_w
-        ∙ ap (λ v. P v (ltb (at recs r).kind 2) (ltb (at recs o).kind 2)) (leaf_reads recs x.split x.left h.laid.1.1)
-        ∙ ap (λ v. P (is_leaf_at x.left) v (ltb (at recs o).kind 2)) (leaf_reads recs x.split x.right h.laid.1.2)
+        ap (λ (v : Record). P (is_leaf (at recs (at recs v.first).first).kind) (is_leaf (at recs (at recs v.first).second).kind) (is_leaf (at recs v.second).kind)) at_s
+        ∙ ap (λ (v : Record). P (is_leaf (at recs v.first).kind) (is_leaf (at recs v.second).kind) (is_leaf (at recs o).kind)) at_w
+        ∙ ap (λ v. P v (is_leaf (at recs r).kind) (is_leaf (at recs o).kind)) (leaf_reads recs x.split x.left h.laid.1.1)
+        ∙ ap (λ v. P (is_leaf_at x.left) v (is_leaf (at recs o).kind)) (leaf_reads recs x.split x.right h.laid.1.2)
         ∙ ap (P (is_leaf_at x.left) (is_leaf_at x.right)) (leaf_reads recs s x.out h.laid.2)
         ∙ and_cond (is_leaf_at x.left) (cond (is_leaf_at x.right) (is_leaf_at x.out) false)
         ∙ ap (λ v. is_leaf_at x.left && v) (and_cond (is_leaf_at x.right) (is_leaf_at x.out))
@@ -298,12 +300,12 @@ module _ {K : Type 0} where
 
       pub sinks_pair : Moved recs used gs (move_pair x k) (sunk_pair recs s k)
       sinks_pair =
-          let cr : (at recs r).code ≡ (rank x.right).code = ap (λ (v : Rank). v.code) (rank_is recs x.split (nodes_of x.right) h.laid.1.2) in
-          let cl : (at recs l).code ≡ (rank x.left).code = ap (λ (v : Rank). v.code) (rank_is recs x.split (nodes_of x.left) h.laid.1.1) in
+          let cr : (at recs r).rank.code ≡ (rank x.right).code = ap (λ (v : Rank). v.code) (rank_is recs x.split (nodes_of x.right) h.laid.1.2) in
+          let cl : (at recs l).rank.code ≡ (rank x.left).code = ap (λ (v : Rank). v.code) (rank_is recs x.split (nodes_of x.left) h.laid.1.1) in
           let e : sunk_pair recs s k ≡ chosen recs s k (eqb k (rank x.right).code) (is_none x.inner) (eqb k (rank x.left).code) =
           reads recs s k rs rw at_s at_w
-          ∙ ap (λ n. chosen recs s k (eqb k n) (ltb 32 (inner_numbers x.inner).depth) (eqb k (at recs l).code)) cr
-          ∙ ap (λ v. chosen recs s k (eqb k (rank x.right).code) v (eqb k (at recs l).code)) (inner_box_is x.inner h.sized.1)
+          ∙ ap (λ n. chosen recs s k (eqb k n) (ltb 32 (inner_numbers x.inner).depth) (eqb k (at recs l).rank.code)) cr
+          ∙ ap (λ v. chosen recs s k (eqb k (rank x.right).code) v (eqb k (at recs l).rank.code)) (inner_box_is x.inner h.sized.1)
           ∙ ap (λ n. chosen recs s k (eqb k (rank x.right).code) (is_none x.inner) (eqb k n)) cl in
           subst (Moved recs used gs (move_pair x k)) (sym e)
           (either recs used gs (eqb k (rank x.right).code) _ _ _ _ (λ _. sinks_right)
@@ -311,15 +313,15 @@ module _ {K : Type 0} where
           (λ _. either recs used gs (eqb k (rank x.left).code) _ _ _ _ (λ _. sinks_left) (λ _. sinks_toward))
           (λ _. sinks_toward)))
 
-  pub kind_low : (c : Content K) → eqb (leaf_kind c) 2 ≡ false
+  pub kind_low : (c : Content K) → is_pair (leaf_kind c) ≡ false
   kind_low (reading r) = refl
   kind_low (box I) = refl
 
   pub sinks_in : (recs : List Record) (gs : List (PairFrame K)) (t : PlacedPairs K) → LiesAmong recs (node_frames gs) (nodes_of t) → (k : ℕ) → Moved recs (used_by (node_frames gs) (nodes_of t)) gs (move_of t k) (sunk_in recs (top_place t) k)
   sinks_in recs gs (placed_leaf p C c) h k =
-      let e : sunk_in recs p k ≡ sinks recs Lost = ap (λ b. cond b (sunk_pair recs p k) (sinks recs Lost)) (ap (λ (v : Record). eqb v.kind 2) h.laid.reads ∙ kind_low c) in
+      let e : sunk_in recs p k ≡ sinks recs Lost = ap (λ b. cond b (sunk_pair recs p k) (sinks recs Lost)) (ap (λ (v : Record). is_pair v.kind) h.laid.reads ∙ kind_low c) in
       subst (Moved recs (used_by (node_frames gs) (leaf_at p C c)) gs (lost (placed_leaf p C c))) (sym e) (h, refl, same _ recs)
   sinks_in recs gs (placed_pair s w r C i E L R O) h k =
       let x : Pair K = record { shrink = s; split = w; rank = r; outer = C; inner = i; box = E; left = L; right = R; out = O } in
-      let e : sunk_in recs s k ≡ sunk_pair recs s k = ap (λ (v : Record). cond (eqb v.kind 2) (sunk_pair recs s k) (sinks recs Lost)) h.laid.0.reads in
+      let e : sunk_in recs s k ≡ sunk_pair recs s k = ap (λ (v : Record). cond (is_pair v.kind) (sunk_pair recs s k) (sinks recs Lost)) h.laid.0.reads in
       subst (Moved recs (used_by (node_frames gs) (nodes_of (whole x))) gs (move_pair x k)) (sym e) (sinks_pair recs gs x h k)

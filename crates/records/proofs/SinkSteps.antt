@@ -1,5 +1,5 @@
 -- The ways of a step down, from what it reads.
-use Rattle.std.proofs.Common.{◌≡◌, ℕ, zero, suc, ◌-◌, ◌<◌, ◌≤◌, Bool, true, cond, eqb, List, sym, refl, ap, ◌∙◌, arith}
+use Rattle.std.proofs.Common.{◌≡◌, ℕ, zero, suc, ◌<◌, ◌≤◌, Bool, true, cond, eqb, List, sym, refl, ap, ◌∙◌, arith}
 use Rattle.std.proofs.lemmas.Bool.{eq-eqb}
 use Rattle.records.specs.declared.record.Record.{Record}
 use Rattle.records.specs.declared.places.FourPlaces.{FourPlaces}
@@ -9,15 +9,15 @@ use Rattle.records.specs.Writes.{at, no_inner, Sink, sinks, sunk_right, sunk_lef
 abbrev pub chosen : List Record → ℕ → ℕ → Bool → Bool → Bool → Sink
 chosen t s k right tree_in left = cond right (sunk_right t s) (cond tree_in (cond left (sunk_left t s) (sinks t (On (child_toward t s k)))) (sinks t (On (child_toward t s k))))
 
-pub reads : (t : List Record) (s k : ℕ) (rs rw : Record) → at t s ≡ rs → at t rs.first ≡ rw → sunk_pair t s k ≡ chosen t s k (eqb k (at t rw.second).code) (no_inner rs) (eqb k (at t rw.first).code)
+pub reads : (t : List Record) (s k : ℕ) (rs rw : Record) → at t s ≡ rs → at t rs.first ≡ rw → sunk_pair t s k ≡ chosen t s k (eqb k (at t rw.second).rank.code) (no_inner rs) (eqb k (at t rw.first).rank.code)
 reads t s k rs rw is is' =
-    ap (λ (u : Record). chosen t s k (eqb k (at t (at t u.first).second).code) (no_inner u) (eqb k (at t (at t u.first).first).code)) is
-    ∙ ap (λ (v : Record). chosen t s k (eqb k (at t v.second).code) (no_inner rs) (eqb k (at t v.first).code)) is'
+    ap (λ (u : Record). chosen t s k (eqb k (at t (at t u.first).second).rank.code) (no_inner u) (eqb k (at t (at t u.first).first).rank.code)) is
+    ∙ ap (λ (v : Record). chosen t s k (eqb k (at t v.second).rank.code) (no_inner rs) (eqb k (at t v.first).rank.code)) is'
 
-pub pair_sinks_right : (t : List Record) (s k : ℕ) (rs rw rb : Record) → rs ≡ at t s → rw ≡ at t rs.first → rb ≡ at t rw.second → k ≡ rb.code → sunk_pair t s k ≡ sunk_right t s
+pub pair_sinks_right : (t : List Record) (s k : ℕ) (rs rw rb : Record) → rs ≡ at t s → rw ≡ at t rs.first → rb ≡ at t rw.second → k ≡ rb.rank.code → sunk_pair t s k ≡ sunk_right t s
 pair_sinks_right t s k rs rw rb is is' is'' e =
-    let yes' : eqb k (at t rw.second).code ≡ true = eq-eqb k (at t rw.second).code (e ∙ ap (λ (v : Record). v.code) is'') in
-    reads t s k rs rw (sym is) (sym is') ∙ ap (λ b. chosen t s k b (no_inner rs) (eqb k (at t rw.first).code)) yes'
+    let yes' : eqb k (at t rw.second).rank.code ≡ true = eq-eqb k (at t rw.second).rank.code (e ∙ ap (λ (v : Record). v.rank.code) is'') in
+    reads t s k rs rw (sym is) (sym is') ∙ ap (λ b. chosen t s k b (no_inner rs) (eqb k (at t rw.first).rank.code)) yes'
 
 -- one run of the loop
 pub run_ends : (n : ℕ) (t : List Record) (s k : ℕ) → n ≤ 0 → struck_in n t s k ≡ sinks t (On s)
@@ -36,9 +36,7 @@ run_lost (suc n) t s k t' h e e' =
     let go : List Record → ℕ → Sink = λ v u. struck_in n v u k in
     ap (λ v. followed go v Lost) e ∙ ap (followed go (sunk_in t s k).table) e'
 
-pub run_on : (n : ℕ) (t : List Record) (s k : ℕ) (t' : List Record) (u : ℕ) → 0 < n → t' ≡ (sunk_in t s k).table → On u ≡ (sunk_in t s k).ends → struck_in (n - 1) t' u k ≡ struck_in n t s k
-run_on zero t s k t' u h e e' = absurd (omega arith)
-run_on (suc n) t s k t' u h e e' =
+pub run_on : (m n : ℕ) (t : List Record) (s k : ℕ) (t' : List Record) (u : ℕ) → m ≡ suc n → t' ≡ (sunk_in t s k).table → On u ≡ (sunk_in t s k).ends → struck_in n t' u k ≡ struck_in m t s k
+run_on m n t s k t' u more e e' =
     let go : List Record → ℕ → Sink = λ v u. struck_in n v u k in
-    let back : suc n - 1 ≡ n = omega arith in
-    ap (λ m. struck_in m t' u k) back ∙ ap (λ v. followed go v (On u)) e ∙ ap (followed go (sunk_in t s k).table) e'
+    ap (λ v. followed go v (On u)) e ∙ ap (followed go (sunk_in t s k).table) e' ∙ sym (ap (λ (l : ℕ). struck_in l t s k) more)

@@ -1,3 +1,4 @@
+pub mod Kinds
 pub mod PlacedNodes
 pub mod Writes
 pub mod PlacedPairs

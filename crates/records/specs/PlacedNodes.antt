@@ -1,6 +1,7 @@
 -- A tree whose nodes have places in a table of records, and what it is for it to lie there.
 --   PlacedNodes, pair_at, unplaced, place_of   a tree of nodes with their places
 --   one, occurs                                how often a place is a node's
+--   kind_of, leaf_kind, leaf_rank, carried     the kind and the rank of a node
 --   numbers_of, inner_numbers, in_record, record_of the record of a node
 --   Lies, NodesRecorded, LiesIn                the tree lies in the table
 --   Sized, Shallow                             the depths are those of boxes
@@ -10,27 +11,30 @@ use Rattle.std.specs.Prelude.{◌≡◌, ℕ, ◌+◌, ◌<◌, ◌≤◌, cond,
 use Rattle.std.proofs.Math.Option.{Option, none, some}
 use Rattle.records.specs.declared.record.BoxNumbers.{BoxNumbers}
 use Rattle.records.specs.declared.record.Record.{Record}
+use Rattle.records.specs.declared.kind.Kind.{Kind}
+use Rattle.records.specs.declared.kind.Kind.TheVariants.{Reading as ReadingKind, Box as BoxKind, Shrink, Split}
 use Rattle.place.specs.Boxes.{Box}
 use Rattle.quadtreap.specs.Tree.{Content, reading, box, Tree, leaf, shrink, split, box_in}
-use Rattle.quadtreap.specs.Rank.{Rank, earlier, rank_of}
+use Rattle.quadtreap.specs.declared.rank.Rank.{Rank}
+use Rattle.quadtreap.specs.Rank.{earlier, rank_of}
 use Rattle.quadtreap.specs.Pairs.{unranked}
 
 -- A node with children is a shrink node or a split node.
-pub data Kind : Type 0 where
-  shrinks : Kind
-  splits : Kind
+pub data NodeKind : Type 0 where
+  shrinks : NodeKind
+  splits : NodeKind
 
 -- Each node has its place. One with children carries a rank; a leaf has that of its reading.
 pub data PlacedNodes (K : Type 0) : Type 0 where
   leaf_at : ℕ → Box → Content K → PlacedNodes K
-  node_at : Kind → ℕ → Rank → Box → Option Box → PlacedNodes K → PlacedNodes K → PlacedNodes K
+  node_at : NodeKind → ℕ → Rank → Box → Option Box → PlacedNodes K → PlacedNodes K → PlacedNodes K
 
 -- A shrink node and the split node that is its first child.
 abbrev pub pair_at : {K : Type 0} → ℕ → ℕ → Rank → Box → Option Box → Box → PlacedNodes K → PlacedNodes K → PlacedNodes K → PlacedNodes K
 pair_at s w r C i E L R O = node_at shrinks s r C i (node_at splits w r E i L R) O
 
 -- The tree node of a kind.
-abbrev pub grown : {K : Type 0} → Kind → Box → Option Box → Tree K → Tree K → Tree K
+abbrev pub grown : {K : Type 0} → NodeKind → Box → Option Box → Tree K → Tree K → Tree K
 grown shrinks C i a b = shrink C i a b
 grown splits C i a b = split C i a b
 
@@ -72,15 +76,15 @@ abbrev pub inner_numbers : Option Box → BoxNumbers
 inner_numbers none = record { depth = 33; code = 0 }
 inner_numbers (some I) = numbers_of I
 
--- The number of a kind.
-abbrev pub kind_of : Kind → ℕ
-kind_of shrinks = 2
-kind_of splits = 3
+-- The kind that the record of a node with children has.
+abbrev pub kind_of : NodeKind → Kind
+kind_of shrinks = Shrink
+kind_of splits = Split
 
--- The number of the kind of a leaf.
-abbrev pub leaf_kind : {K : Type 0} → Content K → ℕ
-leaf_kind (reading r) = 0
-leaf_kind (box I) = 1
+-- The kind that the record of a leaf has.
+abbrev pub leaf_kind : {K : Type 0} → Content K → Kind
+leaf_kind (reading r) = ReadingKind
+leaf_kind (box I) = BoxKind
 
 -- The rank that a leaf carries: that of its reading.
 abbrev pub leaf_rank : {K : Type 0} → Content K → Rank
@@ -96,18 +100,17 @@ carried (node_at k p r C i a b) = r
 abbrev pub blank : Record
 blank =
     record {
-      kind = 0;
+      kind = ReadingKind;
       outer = record { depth = 0; code = 0 };
       inner = record { depth = 0; code = 0 };
       first = 0;
       second = 0;
       parent = 0;
-      priority = 0;
-      code = 0;
+      rank = unranked;
     }
 
 -- The record of a node with a kind, an outer box, an inner box, two children, a parent and a rank.
-abbrev pub in_record : ℕ → Box → Option Box → ℕ → ℕ → ℕ → Rank → Record
+abbrev pub in_record : Kind → Box → Option Box → ℕ → ℕ → ℕ → Rank → Record
 in_record k C i a b p r =
     record {
       kind = k;
@@ -116,8 +119,7 @@ in_record k C i a b p r =
       first = a;
       second = b;
       parent = p;
-      priority = r.priority;
-      code = r.code;
+      rank = r;
     }
 
 -- The record of the root under the parent p. The number 65535 is no node.
@@ -144,8 +146,8 @@ pub record LiesIn {K : Type 0} (recs : List Record) (t : PlacedNodes K) : Type 0
 
 -- A node without its first child, or without its second.
 pub data NodeFrame (K : Type 0) : Type 0 where
-  first : Kind → ℕ → Rank → Box → Option Box → PlacedNodes K → NodeFrame K
-  second : Kind → ℕ → Rank → Box → Option Box → PlacedNodes K → NodeFrame K
+  first : NodeKind → ℕ → Rank → Box → Option Box → PlacedNodes K → NodeFrame K
+  second : NodeKind → ℕ → Rank → Box → Option Box → PlacedNodes K → NodeFrame K
 
 -- The tree t in its frames, which go from the lowest to the one at the root.
 abbrev pub plug : {K : Type 0} → List (NodeFrame K) → PlacedNodes K → PlacedNodes K

@@ -13,7 +13,8 @@ use Rattle.records.specs.declared.record.Record.{Record}
 use Rattle.records.specs.declared.places.FourPlaces.{FourPlaces}
 use Rattle.place.specs.Boxes.{Box, smallest, half}
 use Rattle.quadtreap.specs.Tree.{Reading, Content, reading, box, Tree, leaf, outer, point_of, box_in, extent}
-use Rattle.quadtreap.specs.Rank.{Rank, earlier}
+use Rattle.quadtreap.specs.declared.rank.Rank.{Rank}
+use Rattle.quadtreap.specs.Rank.{earlier}
 use Rattle.quadtreap.specs.Pairs.{unranked, node_rank, Frame, on_left, on_right, on_outer}
 use Rattle.quadtreap.specs.Enter.{leads_all}
 use Rattle.records.specs.PlacedNodes.{shrinks, splits, PlacedNodes, leaf_at, node_at, pair_at, unplaced, place_of, one, occurs, carried, NodeFrame, first, second}

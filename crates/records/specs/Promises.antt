@@ -14,7 +14,8 @@ use Rattle.records.specs.declared.places.Sinking.{Sinking}
 use Rattle.records.specs.declared.places.Sinking.TheVariants.{On, Done, Lost}
 use Rattle.place.specs.Boxes.{Box, whole, smallest}
 use Rattle.quadtreap.specs.Tree.{Reading, Content, reading, Tree, leaf, tree_of, outer, nodes, point_of, extent}
-use Rattle.quadtreap.specs.Rank.{Rank}
+use Rattle.quadtreap.specs.declared.rank.Rank.{Rank}
+use Rattle.quadtreap.specs.Rank.{rank_of}
 use Rattle.quadtreap.specs.Pairs.{promote_left, promote_outer, unranked, ordered as ordered_tree, Paired}
 use Rattle.quadtreap.specs.Enter.{settle as settle_tree, plant as plant_tree}
 use Rattle.quadtreap.specs.Strike.{strike_step, strike_tree}
@@ -61,10 +62,10 @@ pub record PlantedFirst {K : Type 0} (entry exit : List Record) (i : ℕ) (p : R
   pub right : RanksStand (placed_leaf i whole (reading p))
   pub same : Elsewhere (λ j. one j i) entry exit
 
--- The first reading comes to a place of the table.
-abbrev pub PlantsFirst : Type 0 → List Record → List Record → ℕ → ℕ → ℕ → Type 0
-PlantsFirst K entry exit i k priority =
-    (p : Reading K) → p.code ≡ k → p.priority ≡ priority → i < length entry → i < 65535 → PlantedFirst entry exit i p
+-- The first reading, with the rank q, comes to a place of the table.
+abbrev pub PlantsFirst : Type 0 → List Record → List Record → ℕ → Rank → Type 0
+PlantsFirst K entry exit i q =
+    (p : Reading K) → rank_of p ≡ q → i < length entry → i < 65535 → PlantedFirst entry exit i p
 
 -- The leaf at i is a pair, at the places n. Nothing else changed.
 pub record Planted {K : Type 0} (entry exit : List Record) (gs : List (PairFrame K)) (n : FourPlaces) (i : ℕ) (C : Box) (c : Content K) (p : Reading K) : Type 0 where
@@ -75,10 +76,10 @@ pub record Planted {K : Type 0} (entry exit : List Record) (gs : List (PairFrame
   pub places : (j : ℕ) → occurs j (nodes_of (planted_at n i C c p)) ≡ one j i + four j n
   pub same : Elsewhere (λ j. four j n + places_of (put_in_all gs (placed_leaf i C c)) j) entry exit
 
--- A new reading comes to the leaf at i.
-abbrev pub Plants : Type 0 → List Record → List Record → ℕ → ℕ → ℕ → FourPlaces → Type 0
-Plants K entry exit i k priority n =
-    (gs : List (PairFrame K)) (C : Box) (c : Content K) (p : Reading K) → p.code ≡ k → p.priority ≡ priority
+-- A new reading with the rank q comes to the leaf at i.
+abbrev pub Plants : Type 0 → List Record → List Record → ℕ → Rank → FourPlaces → Type 0
+Plants K entry exit i q n =
+    (gs : List (PairFrame K)) (C : Box) (c : Content K) (p : Reading K) → rank_of p ≡ q
     → LiesIn entry (nodes_of (put_in_all gs (placed_leaf i C c))) → Free entry (put_in_all gs (placed_leaf i C c)) n → (smallest (extent c) (point_of p)).depth < 32
     → Planted entry exit gs n i C c p
 

@@ -10,7 +10,7 @@ use Rattle.std.proofs.Math.Option.{Option, none, some}
 use Rattle.records.specs.declared.places.FourPlaces.{FourPlaces}
 use Rattle.place.specs.Boxes.{Box, holds}
 use Rattle.quadtreap.specs.Tree.{outer}
-use Rattle.quadtreap.specs.Rank.{Rank}
+use Rattle.quadtreap.specs.declared.rank.Rank.{Rank}
 use Rattle.quadtreap.specs.Pairs.{unranked, is_none}
 use Rattle.quadtreap.specs.Strike.{Step, done, on, least_of}
 use Rattle.records.specs.PlacedPairs.{PlacedPairs, placed_leaf, placed_pair, tree_in, top_place, rank, rank_at, PairFrame, on_left_at, on_right_at, on_outer_at, put_in, frame}

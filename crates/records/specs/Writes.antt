@@ -1,6 +1,6 @@
 -- What the functions make of a table, for any contents of it.
 --   at, Write, write, wrote                                                        one record read, and records written one after another
---   with_first, .., with_rank, rank_in, with_rank_of                               a record with one part changed
+--   with_first, .., with_rank                                                      a record with one part changed
 --   box_of, half_numbers, content_numbers                                          the boxes of a record
 --   leaf_record, node_record                                                       new records
 --   renamed, relinked                                                              a node names another child
@@ -14,11 +14,16 @@
 use Rattle.std.specs.Prelude.{ℕ, zero, suc, min, Bool, true, false, cond, List, [], ◌∷◌, ◌==◌, nat_lt, slice_index_or, slice_set}
 use Rattle.records.specs.declared.record.BoxNumbers.{BoxNumbers}
 use Rattle.records.specs.declared.record.Record.{Record}
+use Rattle.records.specs.declared.kind.Kind.{Kind}
+use Rattle.records.specs.declared.kind.Kind.TheVariants.{Reading as ReadingKind, Box as BoxKind, Shrink, Split}
 use Rattle.records.specs.declared.places.FourPlaces.{FourPlaces}
 use Rattle.records.specs.declared.places.Sinking.{Sinking}
 use Rattle.records.specs.declared.places.Sinking.TheVariants.{On, Done, Lost}
 use Rattle.place.specs.Boxes.{Box, cut, whole, point, holds, smallest}
-use Rattle.quadtreap.specs.Rank.{Rank, earlier}
+use Rattle.quadtreap.specs.declared.rank.Rank.{Rank}
+use Rattle.quadtreap.specs.Rank.{earlier}
+use Rattle.quadtreap.specs.Pairs.{unranked}
+use Rattle.records.specs.Kinds.{is_leaf, is_reading, is_pair, is_split}
 use Rattle.records.specs.PlacedNodes.{blank, numbers_of}
 
 -- The record at a place, blank past the end.
@@ -41,27 +46,27 @@ wrote (w ∷ ws) t = wrote ws (slice_set t w.place w.value)
 
 -- The record with the first child a.
 abbrev pub with_first : Record → ℕ → Record
-with_first r a = record { kind = r.kind; outer = r.outer; inner = r.inner; first = a; second = r.second; parent = r.parent; priority = r.priority; code = r.code }
+with_first r a = record { kind = r.kind; outer = r.outer; inner = r.inner; first = a; second = r.second; parent = r.parent; rank = r.rank }
 
 -- The record with the second child b.
 abbrev pub with_second : Record → ℕ → Record
-with_second r b = record { kind = r.kind; outer = r.outer; inner = r.inner; first = r.first; second = b; parent = r.parent; priority = r.priority; code = r.code }
+with_second r b = record { kind = r.kind; outer = r.outer; inner = r.inner; first = r.first; second = b; parent = r.parent; rank = r.rank }
 
 -- The record with the parent p.
 abbrev pub with_parent : Record → ℕ → Record
-with_parent r p = record { kind = r.kind; outer = r.outer; inner = r.inner; first = r.first; second = r.second; parent = p; priority = r.priority; code = r.code }
+with_parent r p = record { kind = r.kind; outer = r.outer; inner = r.inner; first = r.first; second = r.second; parent = p; rank = r.rank }
 
 -- The record with the outer box c.
 abbrev pub with_outer : Record → BoxNumbers → Record
-with_outer r c = record { kind = r.kind; outer = c; inner = r.inner; first = r.first; second = r.second; parent = r.parent; priority = r.priority; code = r.code }
+with_outer r c = record { kind = r.kind; outer = c; inner = r.inner; first = r.first; second = r.second; parent = r.parent; rank = r.rank }
 
 -- The record with the inner box c.
 abbrev pub with_inner : Record → BoxNumbers → Record
-with_inner r c = record { kind = r.kind; outer = r.outer; inner = c; first = r.first; second = r.second; parent = r.parent; priority = r.priority; code = r.code }
+with_inner r c = record { kind = r.kind; outer = r.outer; inner = c; first = r.first; second = r.second; parent = r.parent; rank = r.rank }
 
--- The record with the rank of priority p and code c.
-abbrev pub with_rank : Record → ℕ → ℕ → Record
-with_rank r p c = record { kind = r.kind; outer = r.outer; inner = r.inner; first = r.first; second = r.second; parent = r.parent; priority = p; code = c }
+-- The record with the rank q.
+abbrev pub with_rank : Record → Rank → Record
+with_rank r q = record { kind = r.kind; outer = r.outer; inner = r.inner; first = r.first; second = r.second; parent = r.parent; rank = q }
 
 -- The record with the child y in place of x: as its first child where x was that, and else as its second.
 abbrev pub renamed : Record → ℕ → ℕ → Record
@@ -80,8 +85,8 @@ promoted_left t x =
     let inner_box : BoxNumbers = (at t ry.first).outer in
     let ro : Record = at t ry.second in
     wrote
-    (write x (with_parent (with_inner (with_rank rx 0 0) inner_box) rw.first)
-    ∷ write rx.first (with_first (with_inner (with_rank rw 0 0) inner_box) ry.second)
+    (write x (with_parent (with_inner (with_rank rx unranked) inner_box) rw.first)
+    ∷ write rx.first (with_first (with_inner (with_rank rw unranked) inner_box) ry.second)
     ∷ write rw.first (with_parent (with_second (with_outer ry rx.outer) x) rx.parent)
     ∷ write ry.second (with_parent ro rx.first)
     ∷ [])
@@ -102,20 +107,12 @@ promoted_outer t s =
     ∷ [])
     (relinked t rs.parent s rs.second)
 
--- The rank that a record carries.
-abbrev pub rank_in : Record → Rank
-rank_in r = record { priority = r.priority; code = r.code }
-
--- The record r with the rank of the record b.
-abbrev pub with_rank_of : Record → Record → Record
-with_rank_of r b = with_rank r b.priority b.code
-
--- The pair at s takes a rank, in both its records.
-abbrev pub ranked : List Record → ℕ → ℕ → ℕ → List Record
-ranked t s p c =
+-- The pair at s takes the rank q, in both its records.
+abbrev pub ranked : List Record → ℕ → Rank → List Record
+ranked t s q =
     let rs : Record = at t s in
     let rw : Record = at t rs.first in
-    wrote (write s (with_rank rs p c) ∷ write rs.first (with_rank rw p c) ∷ []) t
+    wrote (write s (with_rank rs q) ∷ write rs.first (with_rank rw q) ∷ []) t
 
 -- Left and right of the pair at s change places, and the pair takes the rank of the new left.
 abbrev pub swapped : List Record → ℕ → List Record
@@ -124,8 +121,8 @@ swapped t s =
     let rw : Record = at t rs.first in
     let rb : Record = at t rw.second in
     wrote
-    (write s (with_rank_of rs rb)
-    ∷ write rs.first (with_first (with_second (with_rank_of rw rb) rw.first) rw.second)
+    (write s (with_rank rs rb.rank)
+    ∷ write rs.first (with_first (with_second (with_rank rw rb.rank) rw.first) rw.second)
     ∷ [])
     t
 
@@ -140,7 +137,7 @@ ordered_in t s =
     let rw : Record = at t rs.first in
     let ra : Record = at t rw.first in
     let rb : Record = at t rw.second in
-    cond (no_inner rs) (cond (earlier (rank_in rb) (rank_in ra)) (swapped t s) (ranked t s ra.priority ra.code)) (ranked t s 0 0)
+    cond (no_inner rs) (cond (earlier rb.rank ra.rank) (swapped t s) (ranked t s ra.rank)) (ranked t s unranked)
 
 -- The record of the right child of a pair, whose rank is that of the reading by which the pair was made.
 abbrev pub made_by : List Record → Record → Record
@@ -149,7 +146,7 @@ made_by t r = at t (at t r.first).second
 -- Whether the node at a is a pair, made earlier than the one at b if that is a pair.
 abbrev pub earlier_in : List Record → ℕ → ℕ → Bool
 earlier_in t a b =
-    cond ((at t a).kind == 2) (cond ((at t b).kind == 2) (earlier (rank_in (made_by t (at t a))) (rank_in (made_by t (at t b)))) true) false
+    cond (is_pair (at t a).kind) (cond (is_pair (at t b).kind) (earlier (made_by t (at t a)).rank (made_by t (at t b)).rank) true) false
 
 -- What a step up ends in: the table, the pair that is in its place, and the pair that it rose over, or none.
 pub record Rise : Type 0 where
@@ -166,7 +163,7 @@ abbrev pub settled_in : List Record → ℕ → Rise
 settled_in t s =
     let rs : Record = at t s in
     let rp : Record = at t rs.parent in
-    cond (rp.kind == 3)
+    cond (is_split rp.kind)
     (cond (rp.first == s)
     (cond (earlier_in t s rp.parent) (risen (ordered_in (promoted_left t rp.parent) s) s rp.parent) (risen (ordered_in t rp.parent) rp.parent 65535))
     (risen (ordered_in t rp.parent) rp.parent 65535))
@@ -181,7 +178,7 @@ abbrev pub descended : ℕ → List Record → ℕ → ℕ → ℕ
 descended zero t i k = i
 descended (suc n) t i k =
     let r : Record = at t i in
-    cond (nat_lt r.kind 2) i (cond (holds (box_of (at t r.first).outer) k) (descended n t r.first k) (descended n t r.second k))
+    cond (is_leaf r.kind) i (cond (holds (box_of (at t r.first).outer) k) (descended n t r.first k) (descended n t r.second k))
 
 -- The numbers of the half of e that contains the code c. The box of one code is its own half.
 abbrev pub half_numbers : Box → ℕ → BoxNumbers
@@ -189,37 +186,36 @@ half_numbers e c = numbers_of (cut (min (suc e.depth) 32) c)
 
 -- What a leaf holds, as a box: the place of its reading, or its inner box.
 abbrev pub content_numbers : Record → BoxNumbers
-content_numbers r = cond (r.kind == 0) (record { depth = 32; code = r.code }) r.inner
+content_numbers r = cond (is_reading r.kind) (record { depth = 32; code = r.rank.code }) r.inner
 
 -- The record of a leaf.
-abbrev pub leaf_record : ℕ → BoxNumbers → BoxNumbers → ℕ → ℕ → ℕ → Record
-leaf_record k outer inner p priority code =
-    record { kind = k; outer = outer; inner = inner; first = 65535; second = 65535; parent = p; priority = priority; code = code }
+abbrev pub leaf_record : Kind → BoxNumbers → BoxNumbers → ℕ → Rank → Record
+leaf_record k outer inner p q = record { kind = k; outer = outer; inner = inner; first = 65535; second = 65535; parent = p; rank = q }
 
 -- The record of a node with children, and with no rank yet.
-abbrev pub node_record : ℕ → BoxNumbers → BoxNumbers → ℕ → ℕ → ℕ → Record
-node_record k outer inner a b p = record { kind = k; outer = outer; inner = inner; first = a; second = b; parent = p; priority = 0; code = 0 }
+abbrev pub node_record : Kind → BoxNumbers → BoxNumbers → ℕ → ℕ → ℕ → Record
+node_record k outer inner a b p = record { kind = k; outer = outer; inner = inner; first = a; second = b; parent = p; rank = unranked }
 
--- The leaf at i becomes the left child of a new pair on e, at the places n. The new reading is the right child.
-abbrev pub joined_in : List Record → ℕ → Box → ℕ → ℕ → FourPlaces → List Record
-joined_in t i e k p n =
+-- The leaf at i becomes the left child of a new pair on e, at the places n. A new reading with the rank q is the right child.
+abbrev pub joined_in : List Record → ℕ → Box → Rank → FourPlaces → List Record
+joined_in t i e q n =
     let ri : Record = at t i in
     wrote
     (write i (with_parent (with_outer ri (half_numbers e (content_numbers ri).code)) n.split)
-    ∷ write n.reading (leaf_record 0 (half_numbers e k) (record { depth = 33; code = 0 }) n.split p k)
-    ∷ write n.outer (leaf_record 1 ri.outer (numbers_of e) n.shrink 0 0)
-    ∷ write n.split (node_record 3 (numbers_of e) ri.inner i n.reading n.shrink)
-    ∷ write n.shrink (node_record 2 ri.outer ri.inner n.split n.outer ri.parent)
+    ∷ write n.reading (leaf_record ReadingKind (half_numbers e q.code) (record { depth = 33; code = 0 }) n.split q)
+    ∷ write n.outer (leaf_record BoxKind ri.outer (numbers_of e) n.shrink unranked)
+    ∷ write n.split (node_record Split (numbers_of e) ri.inner i n.reading n.shrink)
+    ∷ write n.shrink (node_record Shrink ri.outer ri.inner n.split n.outer ri.parent)
     ∷ [])
     (relinked t ri.parent i n.shrink)
 
--- The leaf at i becomes a pair over what it held and a new reading, in the order of their ranks.
-abbrev pub planted : List Record → ℕ → ℕ → ℕ → FourPlaces → List Record
-planted t i k p n = ordered_in (joined_in t i (smallest (box_of (content_numbers (at t i))) (point k)) k p n) n.shrink
+-- The leaf at i becomes a pair over what it held and a new reading with the rank q, in the order of their ranks.
+abbrev pub planted : List Record → ℕ → Rank → FourPlaces → List Record
+planted t i q n = ordered_in (joined_in t i (smallest (box_of (content_numbers (at t i))) (point q.code)) q n) n.shrink
 
--- The leaf of the only reading, over the whole square, is written at i.
-abbrev pub first_planted : List Record → ℕ → ℕ → ℕ → List Record
-first_planted t i k p = slice_set t i (leaf_record 0 (numbers_of whole) (record { depth = 33; code = 0 }) 65535 p k)
+-- The leaf of the only reading, which has the rank q, is written at i, over the whole square.
+abbrev pub first_planted : List Record → ℕ → Rank → List Record
+first_planted t i q = slice_set t i (leaf_record ReadingKind (numbers_of whole) (record { depth = 33; code = 0 }) 65535 q)
 
 -- Whether the node at a is a pair, and made first of the three.
 abbrev pub least_in : List Record → ℕ → ℕ → ℕ → Bool
@@ -230,7 +226,7 @@ abbrev pub above_leaves_in : List Record → ℕ → Bool
 above_leaves_in t s =
     let rs : Record = at t s in
     let rw : Record = at t rs.first in
-    cond (nat_lt (at t rw.first).kind 2) (cond (nat_lt (at t rw.second).kind 2) (nat_lt (at t rs.second).kind 2) false) false
+    cond (is_leaf (at t rw.first).kind) (cond (is_leaf (at t rw.second).kind) (is_leaf (at t rs.second).kind) false) false
 
 -- The leaf at i takes the place of the pair at s.
 abbrev pub replaced_in : List Record → ℕ → ℕ → List Record
@@ -256,7 +252,7 @@ abbrev pub raised_outer : List Record → ℕ → ℕ → List Record
 raised_outer t s i =
     let rs : Record = at t s in
     let ri : Record = at t i in
-    cond (no_inner rs) (ranked (promoted_outer t s) rs.second ri.priority ri.code) (ranked (promoted_outer t s) rs.second 0 0)
+    cond (no_inner rs) (ranked (promoted_outer t s) rs.second ri.rank) (ranked (promoted_outer t s) rs.second unranked)
 
 -- A step down where the struck reading is the first of the right child.
 abbrev pub sunk_right : List Record → ℕ → Sink
@@ -288,12 +284,12 @@ abbrev pub sunk_pair : List Record → ℕ → ℕ → Sink
 sunk_pair t s k =
     let rs : Record = at t s in
     let rw : Record = at t rs.first in
-    cond (k == (at t rw.second).code) (sunk_right t s)
-    (cond (no_inner rs) (cond (k == (at t rw.first).code) (sunk_left t s) (sinks t (On (child_toward t s k)))) (sinks t (On (child_toward t s k))))
+    cond (k == (at t rw.second).rank.code) (sunk_right t s)
+    (cond (no_inner rs) (cond (k == (at t rw.first).rank.code) (sunk_left t s) (sinks t (On (child_toward t s k)))) (sinks t (On (child_toward t s k))))
 
 -- One step down from the node at s, for the code k. A leaf has no reading with the code.
 abbrev pub sunk_in : List Record → ℕ → ℕ → Sink
-sunk_in t s k = cond ((at t s).kind == 2) (sunk_pair t s k) (sinks t Lost)
+sunk_in t s k = cond (is_pair (at t s).kind) (sunk_pair t s k) (sinks t Lost)
 
 -- After a step that ends in e, the function f goes on where there is more to do.
 abbrev pub followed : (List Record → ℕ → Sink) → List Record → Sinking → Sink

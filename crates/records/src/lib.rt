@@ -2,10 +2,12 @@
 //! and the definitions and lemmas that the calls of crate nodes are proved by.
 #![tactic(auto)]
 
+mod kind;
 mod places;
 mod record;
 mod table;
 
+pub use kind::Kind;
 pub use places::{FourPlaces, FreePlaces, Sinking};
-pub use record::{BOX, BoxNumbers, NONE, READING, Record, SHRINK, SPLIT};
-pub use table::{BLANK, read, relink, write};
+pub use record::{BoxNumbers, NONE, Record};
+pub use table::{BLANK, read, read_or, relink, write};

@@ -4,24 +4,14 @@ ghost use Rattle.place.specs.Boxes.{point, holds as holds_code, smallest as smal
 ghost use Rattle.place.specs.Values.{box_of as box_in};
 ghost use Rattle.quadtreap.specs.Rank.{earlier};
 ghost use Rattle.records.specs.PlacedNodes.{numbers_of};
-ghost use Rattle.records.specs.Writes.{box_of, half_numbers, content_numbers, rank_in, with_first, with_second, with_parent, with_outer, with_inner, with_rank, leaf_record, node_record};
+ghost use Rattle.records.specs.Writes.{box_of, half_numbers, content_numbers, with_first, with_second, with_parent, with_outer, with_inner, with_rank, leaf_record, node_record};
 
+use crate::kind::Kind;
 use place::PlaceBox;
+use quadtreap::{Rank, UNRANKED};
 
 /// No node.
 pub const NONE: u16 = 65535;
-
-/// The kind of a leaf with a reading.
-pub const READING: u8 = 0;
-
-/// The kind of a leaf with a box.
-pub const BOX: u8 = 1;
-
-/// The kind of a shrink node.
-pub const SHRINK: u8 = 2;
-
-/// The kind of a split node.
-pub const SPLIT: u8 = 3;
 
 /// The depth and the code of a box. A depth past 32 is no box.
 #[derive(Clone, Copy)]
@@ -30,17 +20,18 @@ pub struct BoxNumbers {
     pub code: u32,
 }
 
-impl BoxNumbers {
-    /// The numbers of a box.
-    pub fn of(given: PlaceBox) -> BoxNumbers
-        ensures value { result ≡ numbers_of (box_in given) }
-    {
+impl From<PlaceBox> for BoxNumbers {
+    ghost from_gives = { λ given numbers. numbers ≡ numbers_of (box_in given) };
+
+    fn from(given: PlaceBox) -> BoxNumbers {
         BoxNumbers {
             depth: given.depth,
             code: given.code,
         }
     }
+}
 
+impl BoxNumbers {
     /// No box.
     pub fn none() -> BoxNumbers
         ensures value { result ≡ record { depth = 33; code = 0 } }
@@ -52,7 +43,7 @@ impl BoxNumbers {
     pub fn half(whole: PlaceBox, code: u32) -> BoxNumbers
         ensures value { result ≡ half_numbers (box_in whole) code }
     {
-        BoxNumbers::of(PlaceBox::new(whole.depth + 1, code))
+        BoxNumbers::from(PlaceBox::new(whole.depth + 1, code))
     }
 
     /// Whether the box of the numbers contains a code.
@@ -70,30 +61,22 @@ impl BoxNumbers {
     }
 }
 
-/// The numbers of one node, all plain: any numbers are a record. The rank of a reading is its own priority and code.
+/// What the table has of one node, all plain: any values are a record. The rank of a reading is its own priority and code.
 #[derive(Clone, Copy)]
 pub struct Record {
-    pub kind: u8,
+    pub kind: Kind,
     pub outer: BoxNumbers,
     pub inner: BoxNumbers,
     pub first: u16,
     pub second: u16,
     pub parent: u16,
-    pub priority: u32,
-    pub code: u32,
+    pub rank: Rank,
 }
 
 impl Record {
     /// The record of a leaf.
-    pub fn leaf(
-        kind: u8,
-        outer: BoxNumbers,
-        inner: BoxNumbers,
-        parent: u16,
-        priority: u32,
-        code: u32,
-    ) -> Record
-        ensures value { result ≡ leaf_record kind outer inner parent priority code }
+    pub fn leaf(kind: Kind, outer: BoxNumbers, inner: BoxNumbers, parent: u16, rank: Rank) -> Record
+        ensures value { result ≡ leaf_record kind outer inner parent rank }
     {
         Record {
             kind,
@@ -102,14 +85,13 @@ impl Record {
             first: NONE,
             second: NONE,
             parent,
-            priority,
-            code,
+            rank,
         }
     }
 
     /// The record of a node with children, and with no rank yet.
     pub fn node(
-        kind: u8,
+        kind: Kind,
         outer: BoxNumbers,
         inner: BoxNumbers,
         first: u16,
@@ -125,8 +107,7 @@ impl Record {
             first,
             second,
             parent,
-            priority: 0,
-            code: 0,
+            rank: UNRANKED,
         }
     }
 
@@ -166,32 +147,28 @@ impl Record {
     }
 
     /// The record with another rank.
-    pub fn with_rank(self, priority: u32, code: u32) -> Record
-        ensures value { result ≡ with_rank self priority code }
+    pub fn with_rank(self, rank: Rank) -> Record
+        ensures value { result ≡ with_rank self rank }
     {
-        Record {
-            priority,
-            code,
-            ..self
-        }
+        Record { rank, ..self }
     }
 
     /// Whether this rank comes before that of another record.
+    #[tactic(auto, unfolding(quadtreap::specs::Rank::earlier))]
     pub fn ranks_before(self, other: Record) -> bool
-        ensures value { result ≡ earlier (rank_in self) (rank_in other) }
+        ensures value { result ≡ earlier self.rank other.rank }
     {
-        self.priority < other.priority
-            || (self.priority == other.priority && self.code < other.code)
+        self.rank < other.rank
     }
 
     /// What a leaf holds, as a box: the place of its reading, or its inner box.
     pub fn content(self) -> BoxNumbers
         ensures value { result ≡ content_numbers self }
     {
-        if self.kind == READING {
+        if self.kind == Kind::Reading {
             return BoxNumbers {
                 depth: 32,
-                code: self.code,
+                code: self.rank.code,
             };
         }
         self.inner

@@ -1,39 +1,44 @@
-//! One record of the table: read, written, or linked to another child.
-ghost use Rattle.std.specs.Prelude.{◌≡◌, slice_set};
+//! One entry of a table: read, written, or a record linked to another child.
+ghost use Rattle.std.specs.Prelude.{◌≡◌, slice_index_or, slice_set};
 ghost use Rattle.records.specs.Writes.{at, relinked};
 
+use crate::kind::Kind;
 use crate::record::{BoxNumbers, NONE, Record};
+use quadtreap::UNRANKED;
 
 /// A record of zeros, for tables that hold nothing yet.
 pub const BLANK: Record = Record {
-    kind: 0,
+    kind: Kind::Reading,
     outer: BoxNumbers { depth: 0, code: 0 },
     inner: BoxNumbers { depth: 0, code: 0 },
     first: 0,
     second: 0,
     parent: 0,
-    priority: 0,
-    code: 0,
+    rank: UNRANKED,
 };
+
+/// The entry at a place, `past_end` past the end.
+pub fn read_or<T: Copy>(entries: &[T], place: u16, past_end: T) -> T
+    ensures value { result ≡ slice_index_or entries.now place past_end }
+{
+    entries.get(usize::from(place)).copied().unwrap_or(past_end)
+}
 
 /// The record at a place, blank past the end.
 pub fn read(records: &[Record], place: u16) -> Record
     ensures value { result ≡ at records.now place }
 {
-    let place = place as usize;
-    if place >= records.len() {
-        return BLANK;
-    }
-    records[place]
+    read_or(records, place, BLANK)
 }
 
-/// Writes a record, if its place is in the table.
-pub fn write(records: &mut [Record], place: u16, value: Record)
-    ensures table { records.new ≡ slice_set records.old place value }
+/// Writes an entry, if its place is in the table.
+pub fn write<T: Copy>(entries: &mut [T], place: u16, value: T)
+    ensures table { entries.new ≡ slice_set entries.old place value }
 {
-    let place = place as usize;
-    if place < records.len() {
-        records[place] = value;
+    // By its place, since the contract of `get_mut` does not say what the slice ends as.
+    let place = usize::from(place);
+    if place < entries.len() {
+        entries[place] = value;
     }
 }
 

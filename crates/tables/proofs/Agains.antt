@@ -9,6 +9,7 @@ use Rattle.place.specs.Boxes.{Box}
 use Rattle.quadtreap.specs.Tree.{Reading, Content, reading, box, tree_of, nodes}
 use Rattle.quadtreap.specs.Find.{of_code, lookup}
 use Rattle.quadtreap.specs.Carry.{carry, carry_all, carry_tree, map_carry}
+use Rattle.records.specs.Kinds.{is_reading}
 use Rattle.records.specs.PlacedNodes.{PlacedNodes, leaf_at, unplaced, place_of, one, occurs, LiesIn, record_of, above, plug, NodeFrame}
 use Rattle.records.specs.PlacedPairs.{PlacedPairs, placed_leaf, nodes_of, tree_in, RanksStand, PairFrame, put_in_all, node_frames}
 use Rattle.tables.specs.Calls.{Call, repeats, is_some, present, more, roll}
@@ -165,11 +166,11 @@ module _ {K : Type 0} (join : K → K → K) (e : K) (k : ℕ) (v : K) where
     rs = roll join s.places cs
 
     joined_by : (c : Content K) (path : List (PairFrame K)) (C : Box) (q : Record) → put_in_all path (placed_leaf i C c) ≡ held k join e s rs st far → q ≡ record_of (above (node_frames path)) (leaf_at i C c)
-        → of_code k c ≡ lookup k rs → q.kind ≡ 0 → q.code ≡ k → (m : ℕ) → m ≡ s.live
+        → of_code k c ≡ lookup k rs → is_reading q.kind ≡ true → q.rank.code ≡ k → (m : ℕ) → m ≡ s.live
         → Serves join e s (state s.records (climbed join e s.records s.places q.parent (set s.tallies i (join (get_or s.tallies i e) v))) s.places s.root s.live s.free) (repeats k v) cs (Ok m)
-    joined_by (box I) path C q whole is tells kind code m live = let z : ◌≡◌ {A = ℕ} 1 0 = sym (ap (λ (x : Record). x.kind) is) ∙ kind in absurd (omega arith)
+    joined_by (box I) path C q whole is tells kind code m live = absurd (mathlib.Core.Bool.false≢true (sym (ap (λ (x : Record). is_reading x.kind) is) ∙ kind))
     joined_by (reading r) path C q whole is tells kind code m live =
-        let same : k ≡ r.code = sym code ∙ ap (λ (x : Record). x.code) is in
+        let same : k ≡ r.code = sym code ∙ ap (λ (x : Record). x.rank.code) is in
         let here : lookup k rs ≡ some r = sym tells ∙ ap (λ b. cond b (some r) none) (eq-eqb k r.code same) in
         let there : present k rs ≡ true = ap is_some here in
         let up : q.parent ≡ above (node_frames path) = ap (λ (x : Record). x.parent) is in

@@ -9,7 +9,7 @@ use Rattle.quadtreap.specs.Rank.{before, Ranked, Valid}
 use Rattle.quadtreap.specs.Cells.{total}
 use Rattle.quadtreap.specs.Pairs.{node_rank}
 use Rattle.quadtreap.specs.Carry.{carry, carry_all, carry_tree, map_carry}
-use Rattle.records.specs.PlacedNodes.{Kind, shrinks, splits, PlacedNodes, node_at, unplaced, grown, place_of, one, NodeFrame, first, second, plug}
+use Rattle.records.specs.PlacedNodes.{NodeKind as Kind, shrinks, splits, PlacedNodes, node_at, unplaced, grown, place_of, one, NodeFrame, first, second, plug}
 use Rattle.records.specs.PlacedPairs.{PlacedPairs, placed_pair, tree_in, rank_at, RanksStand, PairFrame, on_left_at, on_right_at, on_outer_at, put_in_all}
 use Rattle.tables.specs.Calls.{more}
 use Rattle.quadtreap.proofs.CellLaws.{total_insert}

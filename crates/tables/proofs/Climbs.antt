@@ -6,7 +6,7 @@ use Rattle.records.specs.declared.record.Record.{Record}
 use Rattle.place.specs.Boxes.{Box}
 use Rattle.quadtreap.specs.Tree.{nodes}
 use Rattle.quadtreap.specs.Walk.{tally_of}
-use Rattle.records.specs.PlacedNodes.{Kind, shrinks, splits, kind_of, in_record, PlacedNodes, leaf_at, node_at, unplaced, grown, place_of, one, occurs, NodeFrame, first, second, plug, above}
+use Rattle.records.specs.PlacedNodes.{NodeKind as Kind, shrinks, splits, kind_of, in_record, PlacedNodes, leaf_at, node_at, unplaced, grown, place_of, one, occurs, NodeFrame, first, second, plug, above}
 use Rattle.records.specs.Writes.{at}
 use Rattle.tables.specs.Totals.{Has, Totals, renewed, climbed}
 use Rattle.records.proofs.FrameLaws.{one_same, differ, occurs_around, LiesAmong, up_first, up_second}

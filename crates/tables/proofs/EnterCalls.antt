@@ -11,6 +11,7 @@ use Rattle.quadtreap.specs.Tree.{Reading, Content, reading, box}
 use Rattle.quadtreap.specs.Rank.{put}
 use Rattle.quadtreap.specs.Find.{of_code, lookup}
 use Rattle.tables.specs.Calls.{Reply, Call, enters, is_some, present, full, reads, next, roll, reply}
+use Rattle.records.specs.Kinds.{is_reading}
 use Rattle.records.specs.PlacedNodes.{leaf_at, record_of}
 use Rattle.records.specs.Writes.{at, planted}
 use Rattle.records.specs.Promises.{Descends}
@@ -101,23 +102,23 @@ module _ {K : Type 0} (join : K → K → K) (e : K) where
         }
 
     -- the leaf of the reading with the code
-    own_content : (c : Content K) (p i : ℕ) (C : Box) (q : Record) → q ≡ record_of p (leaf_at i C c) → q.kind ≡ 0 → q.code ≡ k → is_some (of_code k c) ≡ true
+    own_content : (c : Content K) (p i : ℕ) (C : Box) (q : Record) → q ≡ record_of p (leaf_at i C c) → is_reading q.kind ≡ true → q.rank.code ≡ k → is_some (of_code k c) ≡ true
     own_content (reading r) p i C q is kind code =
-        ap (λ b. is_some (cond b (some r) none)) (eq-eqb k r.code (sym code ∙ ap (λ (x : Record). x.code) is))
-    own_content (box I) p i C q is kind code = let z : ◌≡◌ {A = ℕ} 1 0 = sym (ap (λ (x : Record). x.kind) is) ∙ kind in absurd (omega arith)
+        ap (λ b. is_some (cond b (some r) none)) (eq-eqb k r.code (sym code ∙ ap (λ (x : Record). x.rank.code) is))
+    own_content (box I) p i C q is kind code = absurd (mathlib.Core.Bool.false≢true (sym (ap (λ (x : Record). is_reading x.kind) is) ∙ kind))
 
     module _ (s : State K) (i : ℕ) (q : Record) (far : s.root ≢ 65535) (down : Descends K s.records s.root k s.places i) (is : q ≡ at s.records i) where
-      pub keeps_taken : (eqb q.kind 0 && eqb q.code k) ≡ true → Keeps join e s s call (Err Taken)
+      pub keeps_taken : (is_reading q.kind && eqb q.rank.code k) ≡ true → Keeps join e s s call (Err Taken)
       keeps_taken own cs st =
           let f = found k join e s _ st far i down in
-          let parts = and_parts (eqb q.kind 0) (eqb q.code k) own in
+          let parts = and_parts (is_reading q.kind) (eqb q.rank.code k) own in
           serves_taken s cs st
-          (ap is_some (sym f.tells) ∙ own_content f.content _ i f.box q (is ∙ f.lies) (eqb-true q.kind 0 parts.0) (eqb-true q.code k parts.1))
+          (ap is_some (sym f.tells) ∙ own_content f.content _ i f.box q (is ∙ f.lies) parts.0 (eqb-true q.rank.code k parts.1))
 
-      pub keeps_full : (eqb q.kind 0 && eqb q.code k) ≡ false → leb ((s.places + 3) / 4) s.live ≡ true → Keeps join e s s call (Err Full)
+      pub keeps_full : (is_reading q.kind && eqb q.rank.code k) ≡ false → leb ((s.places + 3) / 4) s.live ≡ true → Keeps join e s s call (Err Full)
       keeps_full other all cs st = serves_full s cs st (ap is_some (lacks_other join e s k i q far down is other cs st)) (full_is s _ true st all)
 
-      pub keeps_entered : (eqb q.kind 0 && eqb q.code k) ≡ false → leb ((s.places + 3) / 4) s.live ≡ false → k < 2 ^ 32
+      pub keeps_entered : (is_reading q.kind && eqb q.rank.code k) ≡ false → leb ((s.places + 3) / 4) s.live ≡ false → k < 2 ^ 32
           → (m : ℕ) → m ≡ s.live + 1 → (s' : State K) → s' ≡ grown join e s i k priority v → Keeps join e s s' call (Ok m)
       keeps_entered other open' small m live s' new cs st =
           let rs : List (Reading K) = roll join s.places cs in
@@ -138,9 +139,9 @@ module _ {K : Type 0} (join : K → K → K) (e : K) where
 
 -- both tables, as the calls on the way answered them
 pub grown_run : {K : Type 0} (join : K → K → K) (e : K) (N i k priority : ℕ) (v z : K) (recs recs1 : List Record) (ts ts1 ts2 : List K) (n : FourPlaces) (t : Tables K)
-    → recs1 ≡ planted recs i k priority n → ts1 ≡ set ts n.reading v → z ≡ e → ts2 ≡ set ts1 n.outer z → t ≡ raised join e N recs1 (mended join e recs1 n.shrink ts2) n.shrink
+    → recs1 ≡ planted recs i (record { priority = priority; code = k }) n → ts1 ≡ set ts n.reading v → z ≡ e → ts2 ≡ set ts1 n.outer z → t ≡ raised join e N recs1 (mended join e recs1 n.shrink ts2) n.shrink
     → t ≡ grown_tables join e N recs ts i k priority v n
 grown_run {K} join e N i k priority v z recs recs1 ts ts1 ts2 n t er e1 ez e2 et =
     et ∙ ap (λ (l : List Record). raised join e N l (mended join e l n.shrink ts2) n.shrink) er
-    ∙ ap (λ (l : List K). raised join e N (planted recs i k priority n) (mended join e (planted recs i k priority n) n.shrink l) n.shrink)
+    ∙ ap (λ (l : List K). raised join e N (planted recs i (record { priority = priority; code = k }) n) (mended join e (planted recs i (record { priority = priority; code = k }) n) n.shrink l) n.shrink)
     (e2 ∙ ap (λ (x : K). set ts1 n.outer x) ez ∙ ap (λ (l : List K). set l n.outer e) e1)

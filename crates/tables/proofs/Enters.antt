@@ -131,7 +131,7 @@ module _ {K : Type 0} (join : K → K → K) (e : K) (k priority : ℕ) (v : K) 
   old_totals = beside join e s.tallies f (leaf_at i way.box way.content) (subst (Totals join e s.tallies) whole_nodes_of lain.totals)
 
   abbrev recs1 : List Record
-  recs1 = planted s.records i k priority n
+  recs1 = planted s.records i (record { priority = priority; code = k }) n
 
   abbrev ts1 : List K
   ts1 = mended join e recs1 n.shrink (sown join e n v s.tallies)

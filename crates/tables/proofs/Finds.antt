@@ -7,6 +7,7 @@ use Rattle.place.specs.Boxes.{Box, holds}
 use Rattle.quadtreap.specs.Tree.{Reading, Content, reading, box, outer, tree_of, nodes, map_nodes}
 use Rattle.quadtreap.specs.Enter.{leads_all}
 use Rattle.quadtreap.specs.Find.{content_at, of_code, map_find, lookup}
+use Rattle.records.specs.Kinds.{is_reading}
 use Rattle.records.specs.PlacedNodes.{leaf_at, record_of, above, LiesIn}
 use Rattle.records.specs.Writes.{at}
 use Rattle.records.specs.PlacedPairs.{PlacedPairs, placed_leaf, placed_pair, nodes_of, tree_in, top_place, PairFrame, on_left_at, on_right_at, on_outer_at, put_in_all, frames, node_frames}
@@ -107,21 +108,21 @@ module _ {K : Type 0} (k : ℕ) where
           }
 
 -- what the leaf holds is no reading with the code
-other_content : {K : Type 0} (k : ℕ) (c : Content K) (p i : ℕ) (C : Box) (q : Record) → q ≡ record_of p (leaf_at i C c) → (q.kind ≢ 0) ⊎ (q.code ≢ k) → of_code k c ≡ none
-other_content k (reading r) p i C q is (inl far) = absurd (far (ap (λ (x : Record). x.kind) is))
-other_content k (reading r) p i C q is (inr far) = ap (λ b. cond b (some r) none) (ne_eqb k r.code (λ z. far (ap (λ (x : Record). x.code) is ∙ sym z)))
+other_content : {K : Type 0} (k : ℕ) (c : Content K) (p i : ℕ) (C : Box) (q : Record) → q ≡ record_of p (leaf_at i C c) → (is_reading q.kind ≡ false) ⊎ (q.rank.code ≢ k) → of_code k c ≡ none
+other_content k (reading r) p i C q is (inl far) = absurd (mathlib.Core.Bool.false≢true (sym far ∙ ap (λ (x : Record). is_reading x.kind) is))
+other_content k (reading r) p i C q is (inr far) = ap (λ b. cond b (some r) none) (ne_eqb k r.code (λ z. far (ap (λ (x : Record). x.rank.code) is ∙ sym z)))
 other_content k (box I) p i C q is way = refl
 
 -- a leaf that does not hold the reading with the code
-other_leaf : (k : ℕ) (q : Record) → (eqb q.kind 0 && eqb q.code k) ≡ false → (q.kind ≢ 0) ⊎ (q.code ≢ k)
+other_leaf : (k : ℕ) (q : Record) → (is_reading q.kind && eqb q.rank.code k) ≡ false → (is_reading q.kind ≡ false) ⊎ (q.rank.code ≢ k)
 other_leaf k q h =
-    elim (and_cases (eqb q.kind 0) (eqb q.code k) h) [ inl a ↦ inl (eqb-false q.kind 0 a) | inr b ↦ inr (eqb-false q.code k b) ]
+    elim (and_cases (is_reading q.kind) (eqb q.rank.code k) h) [ inl a ↦ inl a | inr b ↦ inr (eqb-false q.rank.code k b) ]
 
 module _ {K : Type 0} (join : K → K → K) (e : K) (s : State K) (k : ℕ) where
   pub lacks_empty : s.root ≡ 65535 → Lacks join e s k
   lacks_empty is cs st = none_found k join e s _ st is
 
-  pub lacks_other : (i : ℕ) (q : Record) → s.root ≢ 65535 → Descends K s.records s.root k s.places i → q ≡ at s.records i → (eqb q.kind 0 && eqb q.code k) ≡ false → Lacks join e s k
+  pub lacks_other : (i : ℕ) (q : Record) → s.root ≢ 65535 → Descends K s.records s.root k s.places i → q ≡ at s.records i → (is_reading q.kind && eqb q.rank.code k) ≡ false → Lacks join e s k
   lacks_other i q far down is other cs st =
       let f = found k join e s _ st far i down in
       sym f.tells ∙ other_content k f.content _ i f.box q (is ∙ f.lies) (other_leaf k q other)

@@ -47,10 +47,10 @@ module _ {K : Type 0} (join : K → K → K) (e : K) (k priority : ℕ) (v : K) 
   inside = let q = st.size in let z = taken.below in (omega arith, omega arith)
 
   abbrev recs1 : List Record
-  recs1 = first_planted s.records i k priority
+  recs1 = first_planted s.records i (record { priority = priority; code = k })
 
   planted : PlantedFirst s.records recs1 i p
-  planted = is_planted_first K s.records i k priority p refl refl inside.0 (let q = st.size in let b = taken.below in omega arith)
+  planted = is_planted_first K s.records i (record { priority = priority; code = k }) p refl inside.0 (let q = st.size in let b = taken.below in omega arith)
 
   pub stands_first : Stands join e (started s k priority v) (put p [])
   stands_first = record {

@@ -5,7 +5,8 @@ use Rattle.std.proofs.lemmas.Bool.{eq-eqb, ne_eqb}
 use Rattle.records.specs.declared.record.Record.{Record}
 use Rattle.place.specs.Boxes.{Box}
 use Rattle.quadtreap.specs.Tree.{outer}
-use Rattle.quadtreap.specs.Rank.{Rank, earlier}
+use Rattle.quadtreap.specs.declared.rank.Rank.{Rank}
+use Rattle.quadtreap.specs.Rank.{earlier}
 use Rattle.quadtreap.specs.Pairs.{unranked}
 use Rattle.quadtreap.specs.Walk.{tally_of}
 use Rattle.records.specs.PlacedNodes.{PlacedNodes, leaf_at, node_at, pair_at, ordered_nodes, carried, unplaced, place_of, one, occurs, NodesRecorded, NodeFrame, first, second, above}

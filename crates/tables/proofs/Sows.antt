@@ -4,6 +4,7 @@ use Rattle.records.specs.declared.record.Record.{Record}
 use Rattle.records.specs.declared.places.FourPlaces.{FourPlaces}
 use Rattle.place.specs.Boxes.{Box, smallest, half}
 use Rattle.quadtreap.specs.Tree.{Reading, Content, reading, box, leaf, point_of, box_in, extent}
+use Rattle.quadtreap.specs.Rank.{rank_of}
 use Rattle.quadtreap.specs.Walk.{tally_of}
 use Rattle.records.specs.PlacedNodes.{leaf_at, one, NodesRecorded, NodeFrame, above}
 use Rattle.records.specs.Writes.{planted}
@@ -36,10 +37,10 @@ module _ {K : Type 0} (join : K → K → K) (e : K) where
   pub sows : (recs : List Record) (ts : List K) (f : List (NodeFrame K)) (i : ℕ) (C : Box) (c : Content K) (p : Reading K) (n : FourPlaces) → LiesAmong recs f (leaf_at i C c) → Free recs (placed_leaf i C c) n
       → ((j : ℕ) → four j n + (one j i + occurs_around j f) ≤ 1) → (smallest (extent c) (point_of p)).depth < 32
       → n.shrink < length ts → n.split < length ts → n.reading < length ts → n.outer < length ts → Totals join e ts (leaf_at i C c) → Beside join e ts f
-      → Sows recs (planted recs i p.code p.priority n) ts (mended join e (planted recs i p.code p.priority n) n.shrink (sown n p.tally ts)) f i n (planted_at n i C c p)
+      → Sows recs (planted recs i (rank_of p) n) ts (mended join e (planted recs i (rank_of p) n) n.shrink (sown n p.tally ts)) f i n (planted_at n i C c p)
   sows recs ts f i C c p n h free once small ls lw lr lo tot bes =
       let E : Box = smallest (extent c) (point_of p) in
-      let recs' : List Record = planted recs i p.code p.priority n in
+      let recs' : List Record = planted recs i (rank_of p) n in
       let ts1 : List K = set ts n.reading p.tally in
       let ts2 : List K = sown n p.tally ts in
       let new : (j : ℕ) → (one j i + (one j n.reading + (one j n.outer + (one j n.split + (one j n.shrink + 0))))) + occurs_around j f ≤ 1 = λ j. let q = once j in omega arith in

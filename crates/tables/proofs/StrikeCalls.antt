@@ -13,6 +13,7 @@ use Rattle.quadtreap.specs.Rank.{without}
 use Rattle.quadtreap.specs.Strike.{is_only}
 use Rattle.quadtreap.specs.Find.{of_code, lookup}
 use Rattle.tables.specs.Calls.{Reply, Call, strikes, is_some, present, roll}
+use Rattle.records.specs.Kinds.{is_reading}
 use Rattle.records.specs.PlacedNodes.{leaf_at, LiesIn, record_of, above}
 use Rattle.records.specs.Writes.{Sink, struck_in}
 use Rattle.records.specs.PlacedPairs.{PlacedPairs, placed_leaf, placed_pair, nodes_of, tree_in, PairFrame, on_left_at, on_right_at, on_outer_at, put_in_all, node_frames}
@@ -60,9 +61,9 @@ module _ {K : Type 0} (join : K → K → K) (e : K) (k : ℕ) where
   keeps_absent s gone cs st = absent s cs st (gone cs st)
 
   -- what the leaf holds is a reading with the code
-  this_content : (c : Content K) (p i : ℕ) (C : Box) (q : Record) → q ≡ record_of p (leaf_at i C c) → q.kind ≡ 0 → q.code ≡ k → (r : Reading K) × (c ≡ reading r) × (k ≡ r.code)
-  this_content (reading r) p i C q is kind code = (r, refl, sym code ∙ ap (λ (x : Record). x.code) is)
-  this_content (box I) p i C q is kind code = let z : ◌≡◌ {A = ℕ} 1 0 = sym (ap (λ (x : Record). x.kind) is) ∙ kind in absurd (omega arith)
+  this_content : (c : Content K) (p i : ℕ) (C : Box) (q : Record) → q ≡ record_of p (leaf_at i C c) → is_reading q.kind ≡ true → q.rank.code ≡ k → (r : Reading K) × (c ≡ reading r) × (k ≡ r.code)
+  this_content (reading r) p i C q is kind code = (r, refl, sym code ∙ ap (λ (x : Record). x.rank.code) is)
+  this_content (box I) p i C q is kind code = absurd (mathlib.Core.Bool.false≢true (sym (ap (λ (x : Record). is_reading x.kind) is) ∙ kind))
 
   -- a leaf under another node is not the only one
   stays_pair : (gs : List (PairFrame K)) (t : PlacedPairs K) → is_leaf_at t ≡ false → is_leaf_at (put_in_all gs t) ≡ false

@@ -5,7 +5,7 @@ use Rattle.std.proofs.lemmas.Bool.{false≢true}
 use Rattle.records.specs.declared.record.Record.{Record}
 use Rattle.place.specs.Boxes.{Box}
 use Rattle.quadtreap.specs.Tree.{reading, box, split}
-use Rattle.quadtreap.specs.Rank.{Rank}
+use Rattle.quadtreap.specs.declared.rank.Rank.{Rank}
 use Rattle.quadtreap.specs.Strike.{least_of}
 use Rattle.quadtreap.specs.Walk.{tally_of}
 use Rattle.records.specs.Writes.{Sink, sunk_in}

@@ -11,9 +11,9 @@ use Rattle.tables.specs.declared.walk.Tallied.{Tallied}
 use Rattle.tables.specs.declared.walk.Spot.{Spot}
 use Rattle.place.specs.Boxes.{Box}
 use Rattle.quadtreap.specs.Tree.{Content, reading, box, Tree, leaf, shrink, split, outer, nodes}
-use Rattle.quadtreap.specs.Rank.{Rank}
+use Rattle.quadtreap.specs.declared.rank.Rank.{Rank}
 use Rattle.quadtreap.specs.Walk.{Tests, Joins, Answer, answer, tally_of, taken, walk, visit, Visits}
-use Rattle.records.specs.PlacedNodes.{Kind, shrinks, splits, PlacedNodes, leaf_at, node_at, unplaced, grown, place_of, occurs, record_of, NodesRecorded}
+use Rattle.records.specs.PlacedNodes.{NodeKind, shrinks, splits, PlacedNodes, leaf_at, node_at, unplaced, grown, place_of, occurs, record_of, NodesRecorded}
 use Rattle.records.specs.Writes.{at}
 use Rattle.tables.specs.Totals.{Totals}
 use Rattle.tables.specs.Walks.{crossed, arrived, ran}
@@ -123,35 +123,35 @@ module _ {K : Type 0} (join : K → K → K) (e : K) (q : Tests) (laws : Joins j
   leaf_crosses p i C c x h em ed = at_once (leaf_at i C c) x _ (visits.leaves x C c [] em ed) (λ n. lands p (leaf_at i C c) x false false h em ed n ∙ ap (go n) (leaf_takes p i C c x))
 
   -- a node with two children, of either kind
-  fork_nodes : (k : Kind) (C : Box) (g : Option Box) (u v : Tree K) → nodes (grown k C g u v) ≡ suc (nodes u + nodes v)
+  fork_nodes : (k : NodeKind) (C : Box) (g : Option Box) (u v : Tree K) → nodes (grown k C g u v) ≡ suc (nodes u + nodes v)
   fork_nodes shrinks C g u v = refl
   fork_nodes splits C g u v = refl
 
-  fork_after : (k : Kind) (C : Box) (g : Option Box) (u v : Tree K) (x : Answer K) → q.misses (outer (grown k C g u v)) ≡ false → q.held (outer (grown k C g u v)) ≡ false
+  fork_after : (k : NodeKind) (C : Box) (g : Option Box) (u v : Tree K) (x : Answer K) → q.misses (outer (grown k C g u v)) ≡ false → q.held (outer (grown k C g u v)) ≡ false
       → after x (grown k C g u v) ≡ after (after (answer x.tally (suc x.expanded)) u) v
   fork_after shrinks C g u v x em ed = visits.shrinks x C g u v [] em ed
   fork_after splits C g u v x em ed = visits.splits x C g u v [] em ed
 
-  fork_opens : (p : ℕ) (k : Kind) (i : ℕ) (r : Rank) (C : Box) (g : Option Box) (a b : PlacedNodes K) (x : Answer K) (v : K)
+  fork_opens : (p : ℕ) (k : NodeKind) (i : ℕ) (r : Rank) (C : Box) (g : Option Box) (a b : PlacedNodes K) (x : Answer K) (v : K)
       → arrived join i (record_of p (node_at k i r C g a b)) v (tallied x) (crossed q (record_of p (node_at k i r C g a b))) ≡ spot (Down (place_of a)) (answer x.tally (suc x.expanded))
   fork_opens p shrinks i r C g a b x v = rw add-one
   fork_opens p splits i r C g a b x v = rw add-one
 
-  first_laid : (p : ℕ) (k : Kind) (i : ℕ) (r : Rank) (C : Box) (g : Option Box) (a b : PlacedNodes K) → Laid p (node_at k i r C g a b) → Laid i a
+  first_laid : (p : ℕ) (k : NodeKind) (i : ℕ) (r : Rank) (C : Box) (g : Option Box) (a b : PlacedNodes K) → Laid p (node_at k i r C g a b) → Laid i a
   first_laid p k i r C g a b h = record { laid = h.laid.1; totals = h.totals.1; once = λ j. let o = h.once j in omega arith; low = λ j past. let o = h.low j past in omega arith }
 
-  second_laid : (p : ℕ) (k : Kind) (i : ℕ) (r : Rank) (C : Box) (g : Option Box) (a b : PlacedNodes K) → Laid p (node_at k i r C g a b) → Laid i b
+  second_laid : (p : ℕ) (k : NodeKind) (i : ℕ) (r : Rank) (C : Box) (g : Option Box) (a b : PlacedNodes K) → Laid p (node_at k i r C g a b) → Laid i b
   second_laid p k i r C g a b h = record { laid = h.laid.2; totals = h.totals.2; once = λ j. let o = h.once j in omega arith; low = λ j past. let o = h.low j past in omega arith }
 
   -- both children lie at places of their own
-  apart : (p : ℕ) (k : Kind) (i : ℕ) (r : Rank) (C : Box) (g : Option Box) (a b : PlacedNodes K) → Laid p (node_at k i r C g a b) → place_of a ≢ place_of b
+  apart : (p : ℕ) (k : NodeKind) (i : ℕ) (r : Rank) (C : Box) (g : Option Box) (a b : PlacedNodes K) → Laid p (node_at k i r C g a b) → place_of a ≢ place_of b
   apart p k i r C g a b h =
       let o = h.once (place_of a) in
       let u = root_occurs a in
       let v = root_le b (place_of a) in
       differ (place_of a) (place_of b) (omega arith)
 
-  pub fork_crosses : (p : ℕ) (k : Kind) (i : ℕ) (r : Rank) (C : Box) (g : Option Box) (a b : PlacedNodes K) (x : Answer K) → Laid p (node_at k i r C g a b)
+  pub fork_crosses : (p : ℕ) (k : NodeKind) (i : ℕ) (r : Rank) (C : Box) (g : Option Box) (a b : PlacedNodes K) (x : Answer K) → Laid p (node_at k i r C g a b)
       → q.misses (outer (unplaced (node_at k i r C g a b))) ≡ false → q.held (outer (unplaced (node_at k i r C g a b))) ≡ false → Passes a (answer x.tally (suc x.expanded)) → Passes b (after (answer x.tally (suc x.expanded)) (unplaced a))
       → Passes (node_at k i r C g a b) x
   fork_crosses p k i r C g a b x h em ed pa pb =

@@ -1,10 +1,11 @@
 -- What the look for the leaf of a reading answers.
 --   LeafOf   the leaf that holds the reading with a code
 --   Lacks    no live reading has the code
-use Rattle.std.specs.Prelude.{◌≡◌, ℕ, List, ◌≢◌}
+use Rattle.std.specs.Prelude.{◌≡◌, ℕ, true, List, ◌≢◌}
 use Rattle.std.proofs.Math.Option.{none}
 use Rattle.records.specs.declared.record.Record.{Record}
 use Rattle.quadtreap.specs.Find.{lookup}
+use Rattle.records.specs.Kinds.{is_reading}
 use Rattle.records.specs.Writes.{at}
 use Rattle.records.specs.Promises.{Descends}
 use Rattle.tables.specs.Calls.{Call, roll}
@@ -15,8 +16,8 @@ pub record LeafOf {K : Type 0} (s : State K) (k i : ℕ) (q : Record) : Type 0 w
   pub held : s.root ≢ 65535
   pub leads : Descends K s.records s.root k s.places i
   pub lies : q ≡ at s.records i
-  pub kind : q.kind ≡ 0
-  pub code : q.code ≡ k
+  pub kind : is_reading q.kind ≡ true
+  pub code : q.rank.code ≡ k
 
 -- Whatever calls came before, no live reading has the code k.
 abbrev pub Lacks : {K : Type 0} → (K → K → K) → K → State K → ℕ → Type 0

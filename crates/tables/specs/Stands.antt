@@ -9,6 +9,7 @@
 use Rattle.std.specs.Prelude.{◌≡◌, ℕ, ◌+◌, ◌<◌, ◌≤◌, min, Bool, true, false, List, ◌∷◌, length, Ok, Err, slice_index_or, slice_set}
 use Rattle.std.proofs.Math.Option.{Option, none, some}
 use Rattle.records.specs.declared.record.Record.{Record}
+use Rattle.records.specs.declared.kind.Kind.TheVariants.{Reading as ReadingKind}
 use Rattle.records.specs.declared.places.FourPlaces.{FourPlaces}
 use Rattle.records.specs.declared.places.FreePlaces.{FreePlaces}
 use Rattle.quadtreap.specs.Tree.{Reading, Tree, tree_of, map_nodes}
@@ -98,14 +99,14 @@ Keeps {K} join e s s' c r = (cs : List (Call K)) → Stands join e s (roll join 
 -- Both tables after the leaf at i has become a pair at the places n, and each pair up to the root is settled.
 abbrev pub grown_tables : {K : Type 0} → (K → K → K) → K → ℕ → List Record → List K → ℕ → ℕ → ℕ → K → FourPlaces → Tables K
 grown_tables join e N recs ts i k priority v n =
-    let recs1 : List Record = planted recs i k priority n in
+    let recs1 : List Record = planted recs i (record { priority = priority; code = k }) n in
     raised join e N recs1 (mended join e recs1 n.shrink (slice_set (slice_set ts n.reading v) n.outer e)) n.shrink
 
 -- The state after the first reading: it is the tree, at the next free place.
 abbrev pub started : {K : Type 0} → State K → ℕ → ℕ → K → State K
 started s k priority v =
     let i : ℕ = next_free s.free in
-    state (first_planted s.records i k priority) (slice_set s.tallies i v) s.places i 1 (left_after s.records s.free)
+    state (first_planted s.records i (record { priority = priority; code = k })) (slice_set s.tallies i v) s.places i 1 (left_after s.records s.free)
 
 -- The state after one more reading: the leaf at i has become a pair at the next four free places.
 abbrev pub grown : {K : Type 0} → (K → K → K) → K → State K → ℕ → ℕ → ℕ → K → State K

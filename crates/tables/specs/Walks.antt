@@ -17,6 +17,7 @@ use Rattle.place.specs.Codes.{motor_of, root_of}
 use Rattle.place.specs.Boxes.{cut, in_box}
 use Rattle.crossing.specs.Regions.{Places, misses, held}
 use Rattle.quadtreap.specs.Walk.{Tests}
+use Rattle.records.specs.Kinds.{is_reading, is_box}
 use Rattle.records.specs.Writes.{at, box_of}
 
 -- The tests of a shape, where the two numbers of a box are any: a depth above 32 counts as 32, and the bits below the depth as zeros.
@@ -30,7 +31,7 @@ numbered inner outer =
 
 -- How a node with the record r lies to a shape where its box crosses: a reading is held if the inner set has its place and is missed if not, an inner box is missed, and any other node crosses.
 abbrev pub crossed : Tests → Record → Sight
-crossed q r = cond (r.kind == 0) (cond (q.has r.code) Held Misses) (cond (r.kind == 1) Misses Crosses)
+crossed q r = cond (is_reading r.kind) (cond (q.has r.rank.code) Held Misses) (cond (is_box r.kind) Misses Crosses)
 
 -- How a node with the record r lies to a shape: its box is missed, or else held, or else crosses.
 abbrev pub seen : Tests → Record → Sight

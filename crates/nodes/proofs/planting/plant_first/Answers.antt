@@ -3,4 +3,4 @@ use Rattle.nodes.proofs.planting.plant_first.Goals as goal
 use Rattle.records.proofs.PromiseLaws.{plant_first_lifts}
 
 pub returns : goal.returns
-returns g c = record { table = search rules; stands = plant_first_lifts g.row.K.Denot c.args.records.now _ c.args.at c.args.code c.args.priority (search rules) }
+returns g c = record { table = search rules; stands = plant_first_lifts g.row.K.Denot c.args.records.now _ c.args.at c.args.rank (search rules) }

@@ -1,4 +1,4 @@
-use Rattle.std.proofs.Common.{◌≡◌, List, sym, ap, ◌∙◌}
+use Rattle.std.proofs.Common.{◌≡◌, List, sym, ap, ◌∙◌, rules}
 use Rattle.records.specs.declared.record.Record.{Record}
 use Rattle.nodes.proofs.rise.settle.Goals as goal
 use Rattle.nodes.proofs.rise.settle.Goals.{else-rp-s-via-then-rp-s+else-made_earlier-2, else-rp-s-via-else-rp-s}
@@ -9,17 +9,17 @@ use Rattle.records.proofs.PromiseLaws.{settle_lifts}
 pub returns-then-made_earlier : goal.returns-then-made_earlier
 returns-then-made_earlier g c =
     let s = c.args.s in
-    let e = over_outer_lem c.args.records.now s c.read-up.result c.read-rp.result c.read-up.ensures.value c.read-rp.ensures.value c.if-rp-ne-SPLIT.true
+    let e = over_outer_lem c.args.records.now s c.read-up.result c.read-rp.result c.read-up.ensures.value c.read-rp.ensures.value (search rules)
     (sym c.made_earlier.ensures.value ∙ c.if-made_earlier.true) in
     let at_table = c.order.ensures.table ∙ ap (λ (l : List Record). ordered_in l s) c.promote_outer.ensures.table ∙ sym (ap (λ (v : Rise). v.table) e) in
     let at_top = sym (ap (λ (v : Rise). v.top) e) in
     let at_low = sym (ap (λ (v : Rise). v.low) e) in
     record { table = at_table; top = at_top; low = at_low; stands = settle_lifts g.row.K.Denot c.args.records.now _ s _ _ at_table at_top at_low }
 
-pub returns-then-rp-ne-SPLIT : goal.returns-then-rp-ne-SPLIT
-returns-then-rp-ne-SPLIT g c =
+pub returns-then-ne : goal.returns-then-ne
+returns-then-ne g c =
     let s = c.args.s in
-    let e = under_outer c.args.records.now s c.read-up.result c.read-rp.result c.read-up.ensures.value c.read-rp.ensures.value c.if-rp-ne-SPLIT.true
+    let e = under_outer c.args.records.now s c.read-up.result c.read-rp.result c.read-up.ensures.value c.read-rp.ensures.value (search rules)
     (sym c.made_earlier.ensures.value ∙ c.if-made_earlier.false) in
     let at_table = sym (ap (λ (v : Rise). v.table) e) in
     let at_top = sym (ap (λ (v : Rise). v.top) e) in
@@ -29,7 +29,7 @@ returns-then-rp-ne-SPLIT g c =
 pub returns-then-made_earlier-2 : goal.returns-then-made_earlier-2
 returns-then-made_earlier-2 g c =
     let s = c.args.s in
-    let e = over_left_lem c.args.records.now s c.read-up.result c.read-rp.result c.read-up.ensures.value c.read-rp.ensures.value c.if-rp-ne-SPLIT.false c.if-rp-s.true
+    let e = over_left_lem c.args.records.now s c.read-up.result c.read-rp.result c.read-up.ensures.value c.read-rp.ensures.value (search rules) c.if-rp-s.true
     (sym c.made_earlier-then-rp-s.ensures.value ∙ c.if-made_earlier-2.true) in
     let at_table = c.order-then-made_earlier-2.ensures.table ∙ ap (λ (l : List Record). ordered_in l s) c.promote_left.ensures.table ∙ sym (ap (λ (v : Rise). v.table) e) in
     let at_top = sym (ap (λ (v : Rise). v.top) e) in
@@ -44,8 +44,8 @@ returns g c =
     let e : settled_in recs s ≡ risen (ordered_in recs rp.parent) rp.parent 65535 =
     elim c.else-rp-s.branch [
       | else-rp-s-via-then-rp-s+else-made_earlier-2 w ↦
-          under_left recs s c.read-up.result rp c.read-up.ensures.value c.read-rp.ensures.value c.if-rp-ne-SPLIT.false (sym w.made_earlier-then-rp-s.ensures.value ∙ w.if-made_earlier-2.false)
-      | else-rp-s-via-else-rp-s w ↦ at_right recs s c.read-up.result rp c.read-up.ensures.value c.read-rp.ensures.value c.if-rp-ne-SPLIT.false w.if-rp-s.false
+          under_left recs s c.read-up.result rp c.read-up.ensures.value c.read-rp.ensures.value (search rules) (sym w.made_earlier-then-rp-s.ensures.value ∙ w.if-made_earlier-2.false)
+      | else-rp-s-via-else-rp-s w ↦ at_right recs s c.read-up.result rp c.read-up.ensures.value c.read-rp.ensures.value (search rules) w.if-rp-s.false
     ] in
     let at_table = c.order-2.ensures.table ∙ sym (ap (λ (v : Rise). v.table) e) in
     let at_top = sym (ap (λ (v : Rise). v.top) e) in

@@ -1,6 +1,6 @@
-use Rattle.std.proofs.Common.{sym}
+use Rattle.std.proofs.Common.{rules}
 use lib.Seq.{set_out}
 use Rattle.records.proofs.table.write.Goals as goal
 
-pub returns-else-place-records : goal.returns-else-place-records
-returns-else-place-records c = record { table = sym (set_out c.args.records.now c.args.place c.args.value c.if-place-records.false) }
+pub returns-else-place-entries : goal.returns-else-place-entries
+returns-else-place-entries g c = search (rules, set_out)

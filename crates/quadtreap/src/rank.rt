@@ -1,0 +1,14 @@
+//! What readings are ordered by.
+
+/// A rank is a priority and a code. The smaller priority comes first, and at equal priority the smaller code.
+#[derive(Clone, Copy, PartialEq, Eq, PartialOrd, Ord, Debug)]
+pub struct Rank {
+    pub priority: u32,
+    pub code: u32,
+}
+
+/// The rank that stands for none.
+pub const UNRANKED: Rank = Rank {
+    priority: 0,
+    code: 0,
+};
