@@ -1,13 +1,10 @@
 -- The two times and the numbers that were read leave a single answer.
-use Rattle.std.proofs.Common.{◌≡◌, ℕ, ◌+◌, ◌≤◌, Ok, Err, sym, refl, ap, ◌∙◌, subst, arith}
+use Rattle.std.proofs.Common.{◌≡◌, ◌+◌, ◌≤◌, Ok, Err, sym, ap, ◌∙◌, subst}
 use native.Mathlib.Bridge.{le_prop}
 use Rattle.reading.specs.Limit.{longest}
 use Rattle.reading.specs.declared.counts.Counts.{Counts}
-use Rattle.reading.specs.declared.fault.ReadingFault.{ReadingFault}
-use Rattle.reading.specs.declared.fault.ReadingFault.TheVariants.{Early, Late}
 use Rattle.reading.specs.declared.whole.WholeReading.{WholeReading}
-use Rattle.reading.specs.declared.whole.half.HalfReading.{HalfReading}
-use Rattle.reading.specs.Readings.{numbers_of, Explains, OneAnswer}
+use Rattle.reading.specs.Readings.{numbers_of, OneAnswer}
 
 -- The whole reading with given numbers.
 abbrev whole : (c : Counts) → c.motor_time ≤ c.root_time → c.root_time ≤ c.motor_time + longest → WholeReading
@@ -23,28 +20,9 @@ same_whole v w e =
     w.in_order
     w.in_time
 
--- A time that is too early is not also too late.
-early_or_late : (a b : ℕ) → Explains Early a b → Explains Late a b → ⊥
-early_or_late a b p q = omega arith
-
--- Two times are wrong in one way at most.
-pub same_fault : (f g : ReadingFault) (a b : ℕ) → Explains f a b → Explains g a b → f ≡ g
-same_fault Early Early a b p q = refl
-same_fault Early Late a b p q = elim (early_or_late a b p q) [ ]
-same_fault Late Early a b p q = elim (early_or_late a b q p) [ ]
-same_fault Late Late a b p q = refl
-
--- Times that are wrong in some way are not in time.
-pub not_both : (f : ReadingFault) (a b : ℕ) → Explains f a b → a ≤ b → b ≤ a + longest → ⊥
-not_both Early a b p q r = omega arith
-not_both Late a b p q r = omega arith
-
 -- Two answers to the same question are equal.
 pub one_answer : OneAnswer
 one_answer h root time (Ok v) (Ok w) p q = ap Ok (same_whole v w (p.numbers ∙ sym q.numbers))
-one_answer h root time (Ok v) (Err e) p q = elim (not_both e.1 h.time time q.reason p.timely.order p.timely.soon) [ ]
-one_answer h root time (Err d) (Ok w) p q = elim (not_both d.1 h.time time p.reason q.timely.order q.timely.soon) [ ]
-one_answer h root time (Err d) (Err e) p q =
-    let same_back : d.0 ≡ e.0 = p.same ∙ sym q.same in
-    let same-reason : d.1 ≡ e.1 = same_fault d.1 e.1 h.time time p.reason q.reason in
-    ap (λ (b : HalfReading). Err (b, d.1)) same_back ∙ ap (λ (f : ReadingFault). Err (e.0, f)) same-reason
+one_answer h root time (Ok v) (Err e) p q = cc (p.timely, q.reason)
+one_answer h root time (Err d) (Ok w) p q = cc (p.reason, q.timely)
+one_answer h root time (Err (b, f)) (Err (c, g)) p q = cc (p.same, p.reason, q.same, q.reason)

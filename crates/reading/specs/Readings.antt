@@ -1,9 +1,11 @@
 -- What a half reading becomes when the root is read.
 --   numbers_of, numbers_with    the plain numbers of a reading
+--   time_fault                  the fault of two times
 --   InTime, Explains            two times that are in time, and the fault of two that are not
 --   Made, Refused, Completes    a half reading completed, or refused
+--   CompletesOrGivesUp          a half reading completed, or given up
 --   OneAnswer                   completing has one answer only
-use Rattle.std.specs.Prelude.{◌≡◌, ℕ, ◌+◌, ◌<◌, ◌≤◌, Ok, Err, Result}
+use Rattle.std.specs.Prelude.{◌≡◌, ℕ, ◌+◌, nat_lt, if◌then◌else◌, Some, None, Ok, Err, Option, Result}
 use Rattle.reading.specs.Limit.{longest}
 use Rattle.reading.specs.declared.counts.Counts.{Counts}
 use Rattle.reading.specs.declared.fault.ReadingFault.{ReadingFault}
@@ -19,15 +21,17 @@ numbers_of w = record { motor = w.motor; root = w.root; motor_time = w.motor_tim
 abbrev pub numbers_with : HalfReading → ℕ → ℕ → Counts
 numbers_with h root time = record { motor = h.motor; root = root; motor_time = h.time; root_time = time }
 
--- The root's time neither precedes the motor's nor follows it by more than the longest delay.
-pub record InTime (motor_time root_time : ℕ) : Type 0 where
-  pub order : motor_time ≤ root_time
-  pub soon : root_time ≤ motor_time + longest
+-- The fault of two times, if there is one: the root's time precedes the motor's, or else it follows it by more than the longest delay.
+abbrev pub time_fault : ℕ → ℕ → Option ReadingFault
+time_fault motor_time root_time = if nat_lt root_time motor_time then Some Early else if nat_lt (motor_time + longest) root_time then Some Late else None
 
--- A fault explains a refusal where the two times are wrong in the way that it names.
+-- Two times are in time where they have no fault.
+abbrev pub InTime : ℕ → ℕ → Type 0
+InTime motor_time root_time = time_fault motor_time root_time ≡ None
+
+-- A fault explains a refusal where it is the fault of the two times.
 abbrev pub Explains : ReadingFault → ℕ → ℕ → Type 0
-Explains Early motor_time root_time = root_time < motor_time
-Explains Late motor_time root_time = motor_time + longest < root_time
+Explains fault motor_time root_time = time_fault motor_time root_time ≡ Some fault
 
 -- A whole reading is made where the times agree, and holds exactly the numbers that were read.
 pub record Made (h : HalfReading) (root time : ℕ) (w : WholeReading) : Type 0 where
@@ -43,6 +47,11 @@ pub record Refused (h : HalfReading) (time : ℕ) (back : HalfReading) (fault : 
 abbrev pub Completes : HalfReading → ℕ → ℕ → Result WholeReading (HalfReading × ReadingFault) → Type 0
 Completes h root time (Ok w) = Made h root time w
 Completes h root time (Err e) = Refused h time e.0 e.1
+
+-- Completing a half reading or giving it up makes the whole one, or answers the fault that explains why.
+abbrev pub CompletesOrGivesUp : HalfReading → ℕ → ℕ → Result WholeReading ReadingFault → Type 0
+CompletesOrGivesUp h root time (Ok w) = Made h root time w
+CompletesOrGivesUp h root time (Err f) = Explains f h.time time
 
 -- Any two answers that complete the same half reading with the same root are equal.
 abbrev pub OneAnswer : Type 0

@@ -8,7 +8,7 @@ mod whole;
 pub use counts::Counts;
 pub use fault::ReadingFault;
 pub use whole::WholeReading;
-pub use whole::half::{HalfReading, one_answer};
+pub use whole::half::{HalfReading, one_answer, times_mean};
 
 #[cfg(test)]
 mod tests;

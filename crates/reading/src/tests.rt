@@ -3,17 +3,13 @@ use std::test::Fail;
 
 /// The delay of a reading that is to be accepted.
 fn accepted(from: u32, to: u32) -> Result<u32, Fail> {
-    match HalfReading::take(7, from).complete(9, to) {
+    match HalfReading::take(7, from).complete_or_give_up(9, to) {
         Ok(whole) => {
             let delay = whole.delay();
             let _counts = whole.spend();
             Ok(delay)
         }
-        Err(back) => {
-            let (half, _fault) = back;
-            let _numbers = half.give_up();
-            Err(Fail::new("refused"))
-        }
+        Err(_fault) => Err(Fail::new("refused")),
     }
 }
 
@@ -24,10 +20,7 @@ fn refused(from: u32, to: u32) -> Result<(u8, (u16, u32)), Fail> {
             let _counts = whole.spend();
             Err(Fail::new("accepted"))
         }
-        Err(back) => {
-            let (half, fault) = back;
-            Ok((fault.number(), half.give_up()))
-        }
+        Err((half, fault)) => Ok((fault.number(), half.give_up())),
     }
 }
 
@@ -60,7 +53,7 @@ fn times_do_not_wrap(rt: HostRuntime) -> Result<(), Fail> {
 
 #[test]
 fn every_count_is_kept(rt: HostRuntime) -> Result<(), Fail> {
-    match HalfReading::take(0, 5).complete(65535, 6) {
+    match HalfReading::take(0, 5).complete_or_give_up(65535, 6) {
         Ok(whole) => {
             let seen = (
                 whole.motor(),
@@ -81,10 +74,20 @@ fn every_count_is_kept(rt: HostRuntime) -> Result<(), Fail> {
             );
             Ok(())
         }
-        Err(back) => {
-            let (half, _fault) = back;
-            let _numbers = half.give_up();
-            Err(Fail::new("refused"))
+        Err(_fault) => Err(Fail::new("refused")),
+    }
+}
+
+#[test]
+fn a_half_reading_that_is_refused_leaves_its_fault(rt: HostRuntime) -> Result<(), Fail> {
+    match HalfReading::take(7, 5).complete_or_give_up(9, 26) {
+        Ok(whole) => {
+            let _counts = whole.spend();
+            Err(Fail::new("accepted"))
+        }
+        Err(fault) => {
+            assert_eq!(rt; fault, ReadingFault::Late);
+            Ok(())
         }
     }
 }

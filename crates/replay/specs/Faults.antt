@@ -1,17 +1,12 @@
 -- The faults of the numbers of a record, the numbers of all faults of a journal, and what is printed of them.
---   time_fault               the fault of two times
 --   disc_fault, band_fault   the fault of the numbers of a disc and of a band
 --   step_number              the number of the fault of a step
 --   fault_report             what the line of its record says
-use Rattle.std.specs.Prelude.{ℕ, ◌+◌, cond, nat_lt}
-use Rattle.std.proofs.Math.Option.{Option, none, some}
+use Rattle.std.specs.Prelude.{ℕ, nat_lt, if◌then◌else◌, Some, None, Option}
 use Rattle.journal.specs.Faults.{fault_number as format_number}
 use Rattle.journal.specs.declared.report.Report.{Report}
 use Rattle.journal.specs.declared.report.Report.TheVariants.{Refused, Stopped}
 use Rattle.reading.specs.Faults.{number as reading_number}
-use Rattle.reading.specs.Limit.{longest}
-use Rattle.reading.specs.declared.fault.ReadingFault.{ReadingFault}
-use Rattle.reading.specs.declared.fault.ReadingFault.TheVariants.{Early, Late}
 use Rattle.shape.specs.Faults.{fault_number as shape_number}
 use Rattle.shape.specs.declared.fault.ShapeFault.{ShapeFault}
 use Rattle.shape.specs.declared.fault.ShapeFault.TheVariants.{OuterRadiusTooLarge, InnerRadiusAboveOuter, MotorEndsReversed, RootEndsReversed}
@@ -19,17 +14,13 @@ use Rattle.tables.specs.Calls.{fault_number as map_number}
 use Rattle.replay.specs.declared.fault.StepFault.{StepFault}
 use Rattle.replay.specs.declared.fault.StepFault.TheVariants.{Format, Reading, Shape, Map}
 
--- The fault of the two times, if there is one: the root's time precedes the motor's, or else it follows it by more than the longest delay.
-abbrev pub time_fault : ℕ → ℕ → Option ReadingFault
-time_fault motor_time root_time = cond (nat_lt root_time motor_time) (some Early) (cond (nat_lt (motor_time + longest) root_time) (some Late) none)
-
 -- The fault of the radii of a disc, if there is one: the outer radius R is too large, or else the inner radius r is above it.
 abbrev pub disc_fault : ℕ → ℕ → Option ShapeFault
-disc_fault r R = cond (nat_lt 100000 R) (some OuterRadiusTooLarge) (cond (nat_lt R r) (some InnerRadiusAboveOuter) none)
+disc_fault r R = if nat_lt 100000 R then Some OuterRadiusTooLarge else if nat_lt R r then Some InnerRadiusAboveOuter else None
 
 -- The fault of the ends of a band, if there is one: its lowest motor count is above its highest, or else its lowest root count.
 abbrev pub band_fault : ℕ → ℕ → ℕ → ℕ → Option ShapeFault
-band_fault lm hm lr hr = cond (nat_lt hm lm) (some MotorEndsReversed) (cond (nat_lt hr lr) (some RootEndsReversed) none)
+band_fault lm hm lr hr = if nat_lt hm lm then Some MotorEndsReversed else if nat_lt hr lr then Some RootEndsReversed else None
 
 -- The number of a fault is that of the fault that it holds: 1 and 2 of a reading, 3 to 6 of a shape, 7 to 9 of the map, 10 to 14 of the bytes.
 abbrev pub step_number : StepFault → ℕ

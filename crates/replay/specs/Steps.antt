@@ -1,22 +1,20 @@
 -- What a record of a journal asks of the map, and what it is answered.
---   Completed                       a reading taken and completed, or the fault of its times
+--   IsQuestion                      a record that asks
 --   call_of                         the call on the map that a record makes
 --   of_map, found, Found, tallied   an answer of the map as the answer of a record
 --   refused_by, served              the answer of a record, reckoned from the live readings
 --   Lawful, DiscLaw, Law            what is promised of the tally of a record
 --   leaves                          the answers after which the map is as it was
 --   Stepped, Steps                  what a step promises after some calls, and after any calls
-use Rattle.std.specs.Prelude.{◌≡◌, ℕ, ◌*◌, ◌≤◌, Bool, true, false, cond, List, Ok, Err, Result}
-use Rattle.std.proofs.Math.Option.{Option, none, some}
-use Rattle.reading.specs.declared.fault.ReadingFault.{ReadingFault}
-use Rattle.reading.specs.declared.whole.WholeReading.{WholeReading}
+use Rattle.std.specs.Prelude.{◌≡◌, ℕ, ◌*◌, ◌≤◌, Bool, true, false, if◌then◌else◌, List, Some, None, is_some, Ok, Err, Option, Result}
+use Rattle.reading.specs.Readings.{time_fault}
 use Rattle.shape.specs.Shapes.{widened}
 use Rattle.place.specs.Boxes.{between}
 use Rattle.crossing.specs.Regions.{Places}
 use Rattle.crossing.specs.Discs.{within, crossing_sum}
 use Rattle.quadtreap.specs.Tree.{Reading, tree_of, map_height}
 use Rattle.quadtreap.specs.Walk.{asked, Answer, map_walk}
-use Rattle.tables.specs.Calls.{Call, asks, enter_at, again_at, strike_at, is_some, Reply, reply, roll}
+use Rattle.tables.specs.Calls.{Call, asks, enter_at, again_at, strike_at, Reply, reply, roll}
 use Rattle.tables.specs.Stands.{State, Stands, Serves}
 use Rattle.tables.specs.Heights.{Heights}
 use Rattle.tables.specs.Tallies.{Tallies}
@@ -27,18 +25,22 @@ use Rattle.journal.specs.declared.report.Report.TheVariants.{Ok as Changed, Tall
 use Rattle.replay.specs.declared.fault.StepFault.{StepFault}
 use Rattle.replay.specs.declared.fault.StepFault.TheVariants.{Reading as OfReading, Shape as OfShape, Map as OfMap}
 use Rattle.tally.specs.Spans.{times_in}
-use Rattle.replay.specs.Faults.{time_fault, disc_fault, band_fault}
+use Rattle.replay.specs.Faults.{disc_fault, band_fault}
 use Rattle.replay.specs.Weights.{Weighed, joined, neutral, weighed}
 
--- The reading has the counts that were read and there is no fault of its times, or the fault is that of its times.
-abbrev pub Completed : ℕ → ℕ → ℕ → ℕ → Result WholeReading ReadingFault → Type 0
-Completed motor motor_time root root_time (Ok w) = (time_fault motor_time root_time ≡ none) × (w.motor ≡ motor) × (w.root ≡ root)
-Completed motor motor_time root root_time (Err f) = time_fault motor_time root_time ≡ some f
+-- The record asks, and changes nothing.
+abbrev pub IsQuestion : Entry → Type 0
+IsQuestion (Enter motor motor_time root root_time priority weight) = ⊥
+IsQuestion (Again motor root time weight) = ⊥
+IsQuestion (Strike motor root) = ⊥
+IsQuestion (Disc motor root inner outer) = Unit {0}
+IsQuestion (Band lowest_motor highest_motor lowest_root highest_root margin) = Unit {0}
+IsQuestion Height = Unit {0}
 
 -- A record enters a reading whose times are right, joins a tally, strikes a reading, or asks a question. A reading that is not completed counts as a question, which changes nothing.
 abbrev pub call_of : Entry → Call Weighed
 call_of (Enter motor motor_time root root_time priority weight) =
-    cond (is_some (time_fault motor_time root_time)) asks (enter_at motor root priority (weighed weight root_time))
+    if is_some (time_fault motor_time root_time) then asks else enter_at motor root priority (weighed weight root_time)
 call_of (Again motor root time weight) = again_at motor root (weighed weight time)
 call_of (Strike motor root) = strike_at motor root
 call_of (Disc motor root inner outer) = asks
@@ -66,8 +68,8 @@ tallied inner outer rs = found (map_walk joined neutral (asked inner outer) (tre
 
 -- The fault, if there is one, and otherwise the answer.
 abbrev pub refused_by : {F : Type 0} → (F → StepFault) → Option F → Result Report StepFault → Result Report StepFault
-refused_by wrap (some f) a = Err (wrap f)
-refused_by wrap none a = a
+refused_by wrap (Some f) a = Err (wrap f)
+refused_by wrap None a = a
 
 -- The answer of a record in a map of N places, where the readings rs are live.
 abbrev pub served : ℕ → Entry → List (Reading Weighed) → Result Report StepFault
@@ -94,8 +96,8 @@ abbrev pub Law : ℕ → Entry → List (Call Weighed) → Type 0
 Law N (Enter motor motor_time root root_time priority weight) cs = Unit {0}
 Law N (Again motor root time weight) cs = Unit {0}
 Law N (Strike motor root) cs = Unit {0}
-Law N (Disc motor root inner outer) cs = disc_fault inner outer ≡ none → DiscLaw N motor root inner outer cs
-Law N (Band lm hm lr hr margin) cs = band_fault lm hm lr hr ≡ none → Lawful N (between lm hm lr hr) (widened lm hm lr hr margin) cs
+Law N (Disc motor root inner outer) cs = disc_fault inner outer ≡ None → DiscLaw N motor root inner outer cs
+Law N (Band lm hm lr hr margin) cs = band_fault lm hm lr hr ≡ None → Lawful N (between lm hm lr hr) (widened lm hm lr hr margin) cs
 Law N Height cs = Unit {0}
 
 -- Whether the map is as it was: so after every answer but the number live.

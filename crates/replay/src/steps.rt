@@ -2,35 +2,15 @@
 ghost use Rattle.std.specs.Prelude.{◌≡◌};
 ghost use Rattle.map.specs.Maps.{state_of, Lends};
 ghost use Rattle.quadtreap.specs.Walk.{answer};
-ghost use Rattle.journal.specs.declared.entry.Entry.TheVariants.{Enter, Again, Strike, Disc as DiscEntry, Band as BandEntry, Height as HeightEntry};
-ghost use Rattle.replay.specs.Steps.{of_map, Completed, Found, Steps};
+ghost use Rattle.replay.specs.Steps.{of_map, IsQuestion, Found, Steps};
 
 use crate::fault::StepFault;
-use crate::weights::{Weighed, times_of, weigh};
+use crate::weights::{Weighed, weigh};
 use journal::{Entry, Report};
 use map::{Map, MapFault, Tallied};
 use place::Place;
-use reading::{HalfReading, ReadingFault, WholeReading};
+use reading::HalfReading;
 use shape::{Band, Disc};
-
-/// Takes the motor and completes it with the root. A refused half reading is given up.
-fn complete(
-    motor: u16,
-    motor_time: u32,
-    root: u16,
-    root_time: u32,
-) -> Result<WholeReading, ReadingFault>
-    ensures value { Completed motor motor_time root root_time result }
-{
-    match HalfReading::take(motor, motor_time).complete(root, root_time) {
-        Ok(whole) => Ok(whole),
-        Err(back) => {
-            let (half, fault) = back;
-            let _numbers = half.give_up();
-            Err(fault)
-        }
-    }
-}
 
 /// What is reported of a call that changes the map.
 fn changed(reply: Result<u16, MapFault>) -> Result<Report, StepFault>
@@ -48,88 +28,51 @@ fn tallied(map: &mut Map<Weighed>, tallied: Tallied<Weighed>) -> Report
 {
     Report::Tally {
         sum: tallied.tally.first.value(),
-        times: times_of(tallied.tally.second),
+        times: tallied.tally.second.times(),
         expanded: tallied.expanded,
         height: map.height(),
     }
 }
 
-/// Serves the record of a reading: completes it, and enters it.
-fn enter(
-    map: &mut Map<Weighed>,
-    motor: u16,
-    motor_time: u32,
-    root: u16,
-    root_time: u32,
-    priority: u32,
-    weight: u32,
-) -> Result<Report, StepFault>
-    ensures steps { Steps (state_of map.old) (state_of map.new) (Enter motor motor_time root root_time priority weight) result }
+/// Asks the map the question of a record.
+fn ask(map: &mut Map<Weighed>, question: Entry) -> Result<Report, StepFault>
+    requires asks { IsQuestion question }
+    ensures steps { Steps (state_of map.old) (state_of map.new) question result }
     ensures lends { Lends map.old map.new }
 {
-    let whole = complete(motor, motor_time, root, root_time)?;
-    changed(map.enter(whole, priority, weigh(weight, root_time)))
-}
-
-/// Serves the record of one more weight at a place.
-fn again(
-    map: &mut Map<Weighed>,
-    motor: u16,
-    root: u16,
-    time: u32,
-    weight: u32,
-) -> Result<Report, StepFault>
-    ensures steps { Steps (state_of map.old) (state_of map.new) (Again motor root time weight) result }
-    ensures lends { Lends map.old map.new }
-{
-    changed(map.again(Place { motor, root }, weigh(weight, time)))
-}
-
-/// Serves the record that strikes a place.
-fn strike(map: &mut Map<Weighed>, motor: u16, root: u16) -> Result<Report, StepFault>
-    ensures steps { Steps (state_of map.old) (state_of map.new) (Strike motor root) result }
-    ensures lends { Lends map.old map.new }
-{
-    changed(map.strike(Place { motor, root }))
-}
-
-/// Serves the record of a disc.
-fn disc(
-    map: &mut Map<Weighed>,
-    motor: u16,
-    root: u16,
-    inner: u32,
-    outer: u32,
-) -> Result<Report, StepFault>
-    ensures steps { Steps (state_of map.old) (state_of map.new) (DiscEntry motor root inner outer) result }
-    ensures lends { Lends map.old map.new }
-{
-    let disc = Disc::new(Place { motor, root }, inner, outer)?;
-    let found = map.tally_disc(&disc);
-    Ok(tallied(map, found))
-}
-
-/// Serves the record of a band.
-fn band(
-    map: &mut Map<Weighed>,
-    lowest_motor: u16,
-    highest_motor: u16,
-    lowest_root: u16,
-    highest_root: u16,
-    margin: u16,
-) -> Result<Report, StepFault>
-    ensures steps { Steps (state_of map.old) (state_of map.new) (BandEntry lowest_motor highest_motor lowest_root highest_root margin) result }
-    ensures lends { Lends map.old map.new }
-{
-    let band = Band::new(
-        lowest_motor,
-        highest_motor,
-        lowest_root,
-        highest_root,
-        margin,
-    )?;
-    let found = map.tally(&band);
-    Ok(tallied(map, found))
+    match question {
+        Entry::Disc {
+            motor,
+            root,
+            inner,
+            outer,
+        } => {
+            let disc = Disc::new(Place { motor, root }, inner, outer)?;
+            let found = map.tally_disc(&disc);
+            Ok(tallied(map, found))
+        }
+        Entry::Band {
+            lowest_motor,
+            highest_motor,
+            lowest_root,
+            highest_root,
+            margin,
+        } => {
+            let band = Band::new(
+                lowest_motor,
+                highest_motor,
+                lowest_root,
+                highest_root,
+                margin,
+            )?;
+            let found = map.tally(&band);
+            Ok(tallied(map, found))
+        }
+        // The height: no other record asks.
+        _ => Ok(Report::Height {
+            height: map.height(),
+        }),
+    }
 }
 
 /// Serves one record. Its faults are passed up whole.
@@ -145,43 +88,18 @@ pub fn step(map: &mut Map<Weighed>, entry: Entry) -> Result<Report, StepFault>
             root_time,
             priority,
             weight,
-        } => enter(map, motor, motor_time, root, root_time, priority, weight),
+        } => {
+            let half = HalfReading::take(motor, motor_time);
+            let whole = half.complete_or_give_up(root, root_time)?;
+            changed(map.enter(whole, priority, weigh(weight, root_time)))
+        }
         Entry::Again {
             motor,
             root,
             time,
             weight,
-        } => again(map, motor, root, time, weight),
-        Entry::Strike { motor, root } => strike(map, motor, root),
-        Entry::Disc {
-            motor,
-            root,
-            inner,
-            outer,
-        } => disc(map, motor, root, inner, outer),
-        Entry::Band {
-            lowest_motor,
-            highest_motor,
-            lowest_root,
-            highest_root,
-            margin,
-        } => band(
-            map,
-            lowest_motor,
-            highest_motor,
-            lowest_root,
-            highest_root,
-            margin,
-        ),
-        Entry::Height => height(map),
+        } => changed(map.again(Place { motor, root }, weigh(weight, time))),
+        Entry::Strike { motor, root } => changed(map.strike(Place { motor, root })),
+        question => ask(map, question),
     }
-}
-
-/// Serves the record that asks for the height.
-fn height(map: &mut Map<Weighed>) -> Result<Report, StepFault>
-    ensures steps { Steps (state_of map.old) (state_of map.new) HeightEntry result }
-    ensures lends { Lends map.old map.new }
-{
-    let height = map.height();
-    Ok(Report::Height { height })
 }

@@ -51,25 +51,17 @@ pub fn survey(sample: Sample) -> Result<Accepted, ReadingFault>
     ensures value { Surveyed sample result }
 {
     let half = HalfReading::take(sample.motor, sample.motor_time);
-    match half.complete(sample.root, sample.root_time) {
-        Ok(whole) => {
-            let delay = whole.delay();
-            let counts = whole.spend();
-            let place = Place {
-                motor: counts.motor,
-                root: counts.root,
-            };
-            Ok(Accepted {
-                place,
-                code: place.code(),
-                lag: i32::from(counts.root) - i32::from(counts.motor),
-                delay,
-            })
-        }
-        Err(back) => {
-            let (half, fault) = back;
-            let _numbers = half.give_up();
-            Err(fault)
-        }
-    }
+    let whole = half.complete_or_give_up(sample.root, sample.root_time)?;
+    let delay = whole.delay();
+    let counts = whole.spend();
+    let place = Place {
+        motor: counts.motor,
+        root: counts.root,
+    };
+    Ok(Accepted {
+        place,
+        code: place.code(),
+        lag: i32::from(counts.root) - i32::from(counts.motor),
+        delay,
+    })
 }

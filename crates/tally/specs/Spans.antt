@@ -1,25 +1,23 @@
 -- The times that a span covers, and how spans are joined.
---   earliest, latest, times_in   the first and the last time of a span
+--   times_in, earliest, latest   the first and the last time of a span
 --   lesser, greater              of two times that may be absent
 --   span_joined                  two spans joined
-use Rattle.std.specs.Prelude.{ℕ, min, max, Some, None, Option}
+use Rattle.std.specs.Prelude.{ℕ, min, max, Some, None, Option, option_map}
 use Rattle.tally.specs.declared.span.Span.{Span}
 use Rattle.tally.specs.declared.span.Span.TheVariants.{Empty, Times}
 
--- The first time of a span is the lesser of its two, whichever way round they stand.
-abbrev pub earliest : Span → Option ℕ
-earliest Empty = None
-earliest (Times a b) = Some (min a b)
-
--- The last time of a span is the greater of its two, whichever way round they stand.
-abbrev pub latest : Span → Option ℕ
-latest Empty = None
-latest (Times a b) = Some (max a b)
-
--- The first and the last time of a span, or none where it is empty.
+-- The first and the last time of a span, or none where it is empty: the lesser and the greater of its two, whichever way round they stand.
 abbrev pub times_in : Span → Option (ℕ × ℕ)
 times_in Empty = None
 times_in (Times a b) = Some (min a b, max a b)
+
+-- The first time of a span.
+abbrev pub earliest : Span → Option ℕ
+earliest s = option_map (λ times. times.0) (times_in s)
+
+-- The last time of a span.
+abbrev pub latest : Span → Option ℕ
+latest s = option_map (λ times. times.1) (times_in s)
 
 -- The lesser of two times, or the one that is there.
 abbrev pub lesser : Option ℕ → Option ℕ → Option ℕ

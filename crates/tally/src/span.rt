@@ -1,5 +1,5 @@
 ghost use Rattle.std.specs.Prelude.{◌≡◌};
-ghost use Rattle.tally.specs.Spans.{earliest, latest, lesser, greater, span_joined};
+ghost use Rattle.tally.specs.Spans.{times_in, earliest, latest, lesser, greater, span_joined};
 ghost use Rattle.tally.specs.declared.span.Span.TheVariants.{Empty, Times};
 ghost use Rattle.tally.specs.SpansLemmas.{join_commutative, join_associative, empty_joined};
 
@@ -25,22 +25,26 @@ impl Span {
         Span::Times(time, time)
     }
 
-    pub fn first(&self) -> Option<u32>
-        ensures value { result ≡ earliest self.now }
+    /// The first and the last time, or none where the span is empty.
+    pub fn times(&self) -> Option<(u32, u32)>
+        ensures value { result ≡ times_in self.now }
     {
         match *self {
             Span::Empty => None,
-            Span::Times(a, b) => Some(a.min(b)),
+            Span::Times(a, b) => Some((a.min(b), a.max(b))),
         }
+    }
+
+    pub fn first(&self) -> Option<u32>
+        ensures value { result ≡ earliest self.now }
+    {
+        self.times().map(|(first, _)| first)
     }
 
     pub fn last(&self) -> Option<u32>
         ensures value { result ≡ latest self.now }
     {
-        match *self {
-            Span::Empty => None,
-            Span::Times(a, b) => Some(a.max(b)),
-        }
+        self.times().map(|(_, last)| last)
     }
 }
 

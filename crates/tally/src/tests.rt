@@ -11,6 +11,7 @@ fn a_sum_counts_modulo_its_width(rt: HostRuntime) {
 fn a_span_covers_its_times_in_either_order(rt: HostRuntime) {
     let backward = Span::of(5, 3);
     assert_eq!(rt; (backward.first(), backward.last()), (Some(3), Some(5)));
+    assert_eq!(rt; backward.times(), Some((3, 5)));
     assert_eq!(rt; backward.join(Span::at(4)), Span::of(3, 5));
     assert_eq!(rt;
         Span::at(4294967295).join(Span::at(0)),
@@ -22,6 +23,7 @@ fn a_span_covers_its_times_in_either_order(rt: HostRuntime) {
 fn an_empty_span_leaves_the_other_as_it_stands(rt: HostRuntime) {
     let empty = <Span as Tally>::neutral_value();
     assert_eq!(rt; (empty.first(), empty.last()), (None, None));
+    assert_eq!(rt; empty.times(), None);
     assert_eq!(rt; empty.join(Span::of(5, 3)), Span::of(5, 3));
     assert_eq!(rt; Span::of(5, 3).join(empty), Span::of(5, 3));
 }

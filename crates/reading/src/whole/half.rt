@@ -1,5 +1,7 @@
-ghost use Rattle.std.specs.Prelude.{◌≡◌};
-ghost use Rattle.reading.specs.Readings.{Completes, OneAnswer};
+ghost use Rattle.std.specs.Prelude.{◌≡◌, ℕ, ◌+◌, ◌<◌, ◌≤◌, ◌↔◌};
+ghost use Rattle.reading.specs.Limit.{longest};
+ghost use Rattle.reading.specs.Readings.{InTime, Explains, Completes, CompletesOrGivesUp, OneAnswer};
+ghost use Rattle.reading.specs.declared.fault.ReadingFault.TheVariants.{Early, Late};
 
 use super::WholeReading;
 use crate::fault::ReadingFault;
@@ -44,6 +46,16 @@ impl HalfReading {
         })
     }
 
+    /// Adds the root's count and time. A half reading that is refused is given up, and its fault is answered.
+    pub fn complete_or_give_up(self, root: u16, time: u32) -> Result<WholeReading, ReadingFault>
+        ensures value { CompletesOrGivesUp self root time result }
+    {
+        self.complete(root, time).map_err(|(half, fault)| {
+            let _numbers = half.give_up();
+            fault
+        })
+    }
+
     /// Ends the reading without a root. It answers the motor's count and time, so that nothing is lost.
     pub fn give_up(self) -> (u16, u32)
         ensures value { result ≡ (self.motor, self.time) }
@@ -53,7 +65,15 @@ impl HalfReading {
     }
 }
 
+/// What the fault of two times means. Callers may rely on that.
+pub fn times_mean()
+    ensures in_time { (motor_time root_time : ℕ) → InTime motor_time root_time ↔ ((motor_time ≤ root_time) × (root_time ≤ motor_time + longest)) }
+    ensures early { (motor_time root_time : ℕ) → Explains Early motor_time root_time ↔ (root_time < motor_time) }
+    ensures late { (motor_time root_time : ℕ) → Explains Late motor_time root_time ↔ (motor_time + longest < root_time) }
+{}
+
 /// The contract of `complete` leaves no choice, neither of the case nor of the numbers in it. Callers may rely on that.
+#[tactic(auto, using(crate::proofs::Readings::one_answer))]
 pub fn one_answer()
     ensures value { OneAnswer }
 {}

@@ -1,13 +1,16 @@
 ghost use Rattle.std.specs.Prelude.{◌≡◌};
-ghost use Rattle.tally.specs.Sums.{OnlySum, zero_sum, sum_joined};
+ghost use Rattle.tally.specs.Sums.{sum_of, zero_sum, sum_joined};
 ghost use Rattle.tally.specs.SumsLemmas.{join_commutative, join_associative, zero_joined};
 
 use super::Sum;
 use crate::kind::Tally;
 
 impl Sum {
+    /// A number of 64 bits is its own remainder.
+    #[tactic(auto, using(crate::specs::SumsLemmas::same_sum))]
     pub fn of(value: u64) -> Sum
         ensures value { result.value ≡ value }
+        ensures sum { result ≡ sum_of value }
     {
         Sum { value }
     }
@@ -16,13 +19,6 @@ impl Sum {
         ensures value { result ≡ self.now.value }
     {
         self.value
-    }
-
-    /// A sum is settled by its number alone, which the joining below relies on.
-    fn exactly(value: u64) -> Sum
-        ensures value { OnlySum value result }
-    {
-        Sum::of(value)
     }
 }
 
@@ -38,10 +34,10 @@ impl Tally for Sum {
     ghost neutral_left = { zero_joined };
 
     fn neutral_value() -> Self {
-        Sum::exactly(0)
+        Sum::of(0)
     }
 
     fn join(self, other: Self) -> Self {
-        Sum::exactly(self.value.wrapping_add(other.value))
+        Sum::of(self.value.wrapping_add(other.value))
     }
 }
