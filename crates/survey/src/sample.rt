@@ -26,23 +26,11 @@ pub struct Accepted {
 pub fn sample_of(motor: &str, motor_time: &str, root: &str, root_time: &str) -> Option<Sample>
     ensures value { Sampled motor.now motor_time.now root.now root_time.now result }
 {
-    let Ok(motor) = motor.parse::<u16>() else {
-        return None;
-    };
-    let Ok(motor_time) = motor_time.parse::<u32>() else {
-        return None;
-    };
-    let Ok(root) = root.parse::<u16>() else {
-        return None;
-    };
-    let Ok(root_time) = root_time.parse::<u32>() else {
-        return None;
-    };
     Some(Sample {
-        motor,
-        motor_time,
-        root,
-        root_time,
+        motor: motor.parse().ok()?,
+        motor_time: motor_time.parse().ok()?,
+        root: root.parse().ok()?,
+        root_time: root_time.parse().ok()?,
     })
 }
 
@@ -51,25 +39,20 @@ pub fn survey(sample: Sample) -> Result<Accepted, ReadingFault>
     ensures value { Surveyed sample result }
 {
     let half = HalfReading::take(sample.motor, sample.motor_time);
-    match half.complete(sample.root, sample.root_time) {
-        Ok(whole) => {
-            let delay = whole.delay();
-            let counts = whole.spend();
-            let place = Place {
-                motor: counts.motor,
-                root: counts.root,
-            };
-            Ok(Accepted {
-                place,
-                code: place.code(),
-                lag: i32::from(counts.root) - i32::from(counts.motor),
-                delay,
-            })
-        }
-        Err(back) => {
-            let (half, fault) = back;
-            let _numbers = half.give_up();
-            Err(fault)
-        }
-    }
+    let whole = half.complete(sample.root, sample.root_time).map_err(|(half, fault)| {
+        half.give_up();
+        fault
+    })?;
+    let delay = whole.delay();
+    let counts = whole.spend();
+    let place = Place {
+        motor: counts.motor,
+        root: counts.root,
+    };
+    Ok(Accepted {
+        place,
+        code: place.code(),
+        lag: i32::from(counts.root) - i32::from(counts.motor),
+        delay,
+    })
 }
