@@ -1,4 +1,4 @@
--- The tests of a disc, and that its inner set is part of its outer set.
+-- The inner set of a disc is part of its outer set.
 use Rattle.std.specs.Prelude.{◌≡◌, ℕ, ◌+◌, ◌*◌, ◌≤◌, true}
 use Rattle.std.proofs.Common.{mul-le-mul, le_trans}
 use Rattle.std.proofs.lemmas.Bool.{leb-true, le-leb}

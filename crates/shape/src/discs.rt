@@ -83,13 +83,9 @@ impl Disc {
         ensures value { result ≡ crossing_sum self.now.inner_radius self.now.outer_radius }
         ensures bound { crossings (disc_inner self.now) (disc_outer self.now) ≤ result }
     {
-        let radius = self.inner_radius as u64;
-        let gap = self.outer_radius as u64 - radius;
-        let mut sum: u64 = 0;
-        for depth in 0..33u8 {
-            sum += added_at(depth, radius, gap);
-        }
-        sum
+        let radius = u64::from(self.inner_radius);
+        let gap = u64::from(self.outer_radius) - radius;
+        (0..33).map(|depth| added_at(depth, radius, gap)).sum()
     }
 }
 
