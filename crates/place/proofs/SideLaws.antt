@@ -169,10 +169,10 @@ module _ (k c : ℕ) (deep : k ≤ 32) (fits : c < 2 ^ 32) (clear : c % 2 ^ (32 
   unfolding root_of
   first_root = begins r₀ (root_side k) (subst (λ (x : ℕ). r₀ % x ≡ 0) (root_side_is k deep) (even_clear 16 (32 - k) c clear))
 
-  last_motor : m₀ + motor_side k ≤ 2 ^ 16
+  pub last_motor : m₀ + motor_side k ≤ 2 ^ 16
   last_motor = subst (λ (x : ℕ). x + motor_side k ≤ 2 ^ 16) first_motor (interval_fits (16 - (k + 1) / 2) m₀ (omega arith) (motor_lt c))
 
-  last_root : r₀ + root_side k ≤ 2 ^ 16
+  pub last_root : r₀ + root_side k ≤ 2 ^ 16
   last_root = subst (λ (x : ℕ). x + root_side k ≤ 2 ^ 16) first_root (interval_fits (16 - k / 2) r₀ (omega arith) (root_lt c))
 
   abbrev box : Box

@@ -1,11 +1,25 @@
 //! The calls on boxes.
-ghost use Rattle.std.specs.Prelude.{◌≡◌, min};
+ghost use Rattle.std.specs.Prelude.{◌≡◌, ◌+◌, ◌^◌, ◌<◌, ◌≤◌, min};
 ghost use Rattle.place.specs.Boxes.{cut, whole as whole_square, point as point_of, holds as holds_code, smallest as smallest_of, Deepest, motor_side, root_side};
 ghost use Rattle.place.specs.Values.{box_of, Halved, Covers};
 
+use crate::interval::Interval;
 use crate::place::Place;
 use crate::place_box::PlaceBox;
 use crate::rectangle::Rectangle;
+
+/// The interval of so many counts, from its lowest.
+fn spanning(lowest: u16, counts: u32) -> Interval
+    requires some { 0 < counts }
+    requires room { lowest + counts ≤ 2 ^ 16 }
+    ensures value { (result.lowest ≡ lowest) × (result.highest + 1 ≡ lowest + counts) }
+{
+    let more = (counts - 1) as u16;
+    Interval {
+        lowest,
+        highest: lowest + more,
+    }
+}
 
 impl PlaceBox {
     /// The box of a depth that contains a code; a depth above 32 counts as 32.
@@ -46,13 +60,11 @@ impl PlaceBox {
     pub fn half(self, code: u32) -> Option<PlaceBox>
         ensures value { Halved self code result }
     {
-        if self.depth == 32 {
-            return None;
+        if self.depth < 32 && self.holds(code) {
+            Some(PlaceBox::new(self.depth + 1, code))
+        } else {
+            None
         }
-        if !self.holds(code) {
-            return None;
-        }
-        Some(PlaceBox::new(self.depth + 1, code))
     }
 
     /// The smallest box of this box and a code: the deepest that contains both.
@@ -91,13 +103,9 @@ impl PlaceBox {
         ensures covers { Covers (box_of self) result }
     {
         let corner = Place::of_code(self.code);
-        let motors = self.motor_side() - 1;
-        let roots = self.root_side() - 1;
         Rectangle {
-            lowest_motor: corner.motor,
-            highest_motor: (corner.motor as u32 + motors) as u16,
-            lowest_root: corner.root,
-            highest_root: (corner.root as u32 + roots) as u16,
+            motors: spanning(corner.motor, self.motor_side()),
+            roots: spanning(corner.root, self.root_side()),
         }
     }
 }

@@ -1,12 +1,14 @@
-//! Places, their codes, the boxes that codes share, and rectangles of places.
+//! Places, their codes, the boxes that codes share, and intervals of counts and rectangles of places.
 #![tactic(auto)]
 
 mod boxes;
+mod interval;
+mod intervals;
 mod place;
 mod place_box;
 mod rectangle;
-mod rectangles;
 
+pub use interval::Interval;
 pub use place::Place;
 pub use place_box::PlaceBox;
 pub use rectangle::Rectangle;
@@ -14,6 +16,7 @@ pub use rectangle::Rectangle;
 #[cfg(test)]
 mod tests {
     use super::*;
+    use std::test::Fail;
 
     #[test]
     fn codes_interleave_the_counts(rt: HostRuntime) {
@@ -92,6 +95,22 @@ mod tests {
         assert_eq!(rt; PlaceBox::smallest_of(6, 7), PlaceBox::new(31, 6));
         assert_eq!(rt; PlaceBox::new(28, 0).smallest(3), PlaceBox::new(28, 0));
         assert_eq!(rt; PlaceBox::new(28, 0).smallest(16), PlaceBox::new(27, 0));
+    }
+
+    #[test]
+    fn intervals_reach_to_their_ends(rt: HostRuntime) -> Result<(), Fail> {
+        let (Some(some), Some(next)) = (Interval::new(3, 5), Interval::new(6, 9)) else {
+            return Err(Fail::new("two intervals"));
+        };
+        assert_eq!(rt; Interval::new(5, 3), None);
+        assert!(rt; some.has(3) && some.has(5));
+        assert!(rt; !some.has(2) && !some.has(6));
+        assert!(rt; !some.overlaps(next));
+        assert!(rt; some.overlaps(next.widened(1)));
+        assert!(rt; !some.within(next));
+        assert!(rt; some.within(next.widened(3)));
+        assert_eq!(rt; Some(some.widened(65535)), Interval::new(0, 65535));
+        Ok(())
     }
 
     #[test]

@@ -37,12 +37,11 @@ widened lm hm lr hr margin = between (lm - margin) (min (hm + margin) 65535) (lr
 -- The outer set of a band: its rectangle widened by the margin on each side, stopping at 0 and 65535.
 abbrev pub band_outer : Band → Places
 band_outer b =
-    between (b.rectangle.lowest_motor - b.margin) (min (b.rectangle.highest_motor + b.margin) 65535)
-    (b.rectangle.lowest_root - b.margin) (min (b.rectangle.highest_root + b.margin) 65535)
+    widened b.rectangle.motors.lowest b.rectangle.motors.highest b.rectangle.roots.lowest b.rectangle.roots.highest b.margin
 
 -- The band with the ends and the margin that were given, or why there is none.
 abbrev pub BandMade : ℕ → ℕ → ℕ → ℕ → ℕ → Result Band ShapeFault → Type 0
 BandMade lm hm lr hr margin (Ok b) =
-    (b.rectangle.lowest_motor ≡ lm) × (b.rectangle.highest_motor ≡ hm) × (b.rectangle.lowest_root ≡ lr)
-    × (b.rectangle.highest_root ≡ hr) × (b.margin ≡ margin)
+    (b.rectangle.motors.lowest ≡ lm) × (b.rectangle.motors.highest ≡ hm) × (b.rectangle.roots.lowest ≡ lr)
+    × (b.rectangle.roots.highest ≡ hr) × (b.margin ≡ margin)
 BandMade lm hm lr hr margin (Err f) = BandRefused lm hm lr hr f

@@ -8,46 +8,38 @@ ghost use Rattle.shape.specs.DiscTests.{within_more};
 use crate::disc::Disc;
 use crate::fault::ShapeFault;
 use crate::shapes::Shape;
-use place::{Place, PlaceBox, Rectangle};
+use place::{Interval, Place, PlaceBox, Rectangle};
 
 const LARGEST_RADIUS: u32 = 100000;
 
-/// How far a count is from the nearest count from `lowest` to `highest`.
-fn gap(count: u16, lowest: u16, highest: u16) -> u32
-    requires ends { lowest ≤ highest }
-    ensures value { result ≡ gap_to count lowest highest }
-    ensures small { result ≤ 65535 }
+/// How far a count is from the nearest count of an interval.
+fn gap(count: u16, counts: Interval) -> u16
+    ensures value { result ≡ gap_to count counts.lowest counts.highest }
 {
-    let nearest = count.clamp(lowest, highest);
-    count.abs_diff(nearest) as u32
+    count.abs_diff(count.clamp(counts.lowest, counts.highest))
 }
 
-/// How far a count is from the farthest count from `lowest` to `highest`.
-fn reach(count: u16, lowest: u16, highest: u16) -> u32
-    requires ends { lowest ≤ highest }
-    ensures value { result ≡ reach_to count lowest highest }
-    ensures small { result ≤ 65535 }
+/// How far a count is from the farthest count of an interval.
+fn reach(count: u16, counts: Interval) -> u16
+    ensures value { result ≡ reach_to count counts.lowest counts.highest }
 {
-    let below = count.saturating_sub(lowest);
-    let above = highest.saturating_sub(count);
-    below.max(above) as u32
+    let below = count.saturating_sub(counts.lowest);
+    let above = counts.highest.saturating_sub(count);
+    below.max(above)
 }
 
 /// The square of a radius, which 64 bits have room for.
 fn square(radius: u32) -> u64
-    requires small { radius ≤ 100000 }
     ensures value { result ≡ radius * radius }
 {
-    radius as u64 * radius as u64
+    u64::from(radius) * u64::from(radius)
 }
 
 /// The square of the distance that is `motor` along one axis and `root` along the other.
-fn distance_squared(motor: u32, root: u32) -> u64
-    requires motors { motor ≤ 65535 }
-    requires roots { root ≤ 65535 }
+fn distance_squared(motor: u16, root: u16) -> u64
     ensures value { result ≡ motor * motor + root * root }
 {
-    square(motor) + square(root)
+    square(u32::from(motor)) + square(u32::from(root))
 }
 
 /// What the boxes of a depth add to a crossing sum.
@@ -91,13 +83,9 @@ impl Disc {
         ensures value { result ≡ crossing_sum self.now.inner_radius self.now.outer_radius }
         ensures bound { crossings (disc_inner self.now) (disc_outer self.now) ≤ result }
     {
-        let radius = self.inner_radius as u64;
-        let gap = self.outer_radius as u64 - radius;
-        let mut sum: u64 = 0;
-        for depth in 0..33u8 {
-            sum += added_at(depth, radius, gap);
-        }
-        sum
+        let radius = u64::from(self.inner_radius);
+        let gap = u64::from(self.outer_radius) - radius;
+        (0..33).map(|depth| added_at(depth, radius, gap)).sum()
     }
 }
 
@@ -108,21 +96,24 @@ impl Shape for Disc {
 
     ghost nested = { λ s m r _ _ e. within_more s.centre.motor s.centre.root s.inner_radius s.outer_radius m r s.nested e };
 
+    #[tactic(auto, using(crossing::proofs::DiscLaws::disc_misses))]
     fn misses(&self, region: Rectangle) -> bool {
-        let motor = gap(self.centre.motor, region.lowest_motor, region.highest_motor);
-        let root = gap(self.centre.root, region.lowest_root, region.highest_root);
+        let motor = gap(self.centre.motor, region.motors);
+        let root = gap(self.centre.root, region.roots);
         square(self.inner_radius) < distance_squared(motor, root)
     }
 
+    #[tactic(auto, using(crossing::proofs::DiscLaws::disc_holds))]
     fn held(&self, region: Rectangle) -> bool {
-        let motor = reach(self.centre.motor, region.lowest_motor, region.highest_motor);
-        let root = reach(self.centre.root, region.lowest_root, region.highest_root);
+        let motor = reach(self.centre.motor, region.motors);
+        let root = reach(self.centre.root, region.roots);
         distance_squared(motor, root) <= square(self.outer_radius)
     }
 
+    #[tactic(auto, unfolding(crossing::specs::Discs::within))]
     fn has(&self, place: Place) -> bool {
-        let motor = gap(self.centre.motor, place.motor, place.motor);
-        let root = gap(self.centre.root, place.root, place.root);
+        let motor = place.motor.abs_diff(self.centre.motor);
+        let root = place.root.abs_diff(self.centre.root);
         distance_squared(motor, root) <= square(self.inner_radius)
     }
 }

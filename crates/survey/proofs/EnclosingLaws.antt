@@ -1,31 +1,30 @@
--- A box grows by one code to the smallest box of both.
-use Rattle.std.proofs.Common.{◌≡◌, ℕ, ◌+◌, ◌<◌, ◌≤◌, true, List, length, get_or, arith, below_more}
+-- The smallest box of a list of codes, by one code more.
+use Rattle.std.proofs.Common.{◌≡◌, ℕ, true, List, [], ◌∷◌, ◌++◌, Some, refl}
 use mathlib.Core.Path.{subst⁻¹}
+use Rattle.std.proofs.lemmas.List.Elements.{All-nil, All-cons, All-head, All-push, All-pop}
 use Rattle.place.specs.Boxes.{Box, point, holds, within, Deepest}
 use Rattle.place.proofs.BoxLaws.{true_holds, within_parts, within_holds, point_within}
-use Rattle.survey.specs.Enclosing.{HoldsAll}
+use Rattle.survey.specs.Enclosing.{Encloses}
 
 -- a box that contains the box of a code contains that code
-pub within_point : (C : Box) (c : ℕ) → within (point c) C ≡ true → holds C c ≡ true
+within_point : (C : Box) (c : ℕ) → within (point c) C ≡ true → holds C c ≡ true
 within_point C c h = true_holds C c (within_parts (point c) C h).1
 
--- The codes so far, in a box that lies in every box with all the codes.
-pub record Grows (codes : List ℕ) (n : ℕ) (B : Box) : Type 0 where
-  pub so_far : (k : ℕ) → k < n → holds B (get_or codes k 0) ≡ true
-  pub least : (C : Box) → C.depth ≤ 32 → HoldsAll C codes → within B C ≡ true
-
 -- the box of the first code
-pub grows_first : (codes : List ℕ) (B : Box) → 0 < length codes → B ≡ point (get_or codes 0 0) → Grows codes 0 B
-grows_first codes B some e =
+pub encloses_one : (c : ℕ) (B : Box) → B ≡ point c → Encloses (c ∷ []) B
+encloses_one c B e =
+    subst⁻¹ (λ (A : Box). Encloses (c ∷ []) A) e
     record {
-      so_far = λ k h. absurd (let q : ⊥ = omega arith in q);
-      least = λ C deep all. subst⁻¹ (λ (A : Box). within A C ≡ true) e (point_within C (get_or codes 0 0) deep (all 0 some));
+      each = All-cons (λ x. holds (point c) x ≡ true) c [] (true_holds (point c) c refl) (All-nil (λ x. holds (point c) x ≡ true));
+      least = λ C deep all. point_within C c deep (All-head (λ x. holds C x ≡ true) c [] all);
     }
 
 -- one code more
-pub grows_more : (codes : List ℕ) (n : ℕ) (B E : Box) → n < length codes → Grows codes n B → Deepest B (point (get_or codes n 0)) E → Grows codes (n + 1) E
-grows_more codes n B E l g d =
+pub encloses_more : (codes : List ℕ) (c : ℕ) (B E : Box) → Encloses codes B → Deepest B (point c) E → Encloses (codes ++ c ∷ []) E
+encloses_more codes c B E g d =
     record {
-      so_far = below_more (λ k. holds E (get_or codes k 0) ≡ true) n (λ k h. within_holds B E (get_or codes k 0) d.first (g.so_far k h)) (within_point E (get_or codes n 0) d.second);
-      least = λ C deep all. d.deepest C (g.least C deep all) (point_within C (get_or codes n 0) deep (all n l));
+      each = All-push (λ x. holds E x ≡ true) codes c (λ k x h. within_holds B E _ d.first (g.each k x h)) (within_point E c d.second);
+      least = λ C deep all.
+          let parts = All-pop (λ x. holds C x ≡ true) (codes ++ c ∷ []) codes (Some c) refl all in
+          d.deepest C (g.least C deep parts.0) (point_within C c deep parts.1);
     }

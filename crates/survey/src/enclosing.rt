@@ -7,12 +7,6 @@ use place::PlaceBox;
 pub fn enclosing(codes: &[u32]) -> Option<PlaceBox>
     ensures value { Enclosed codes.now result }
 {
-    if codes.len() == 0 {
-        return None;
-    }
-    let mut found = PlaceBox::point(codes[0]);
-    for code in codes {
-        found = found.smallest(*code);
-    }
-    Some(found)
+    let (first, rest) = codes.split_first()?;
+    Some(rest.iter().fold(PlaceBox::point(*first), |found, code| found.smallest(*code)))
 }

@@ -2,23 +2,18 @@
 #![tactic(auto)]
 
 mod enclosing;
+mod lines;
 mod sample;
 
 use enclosing::enclosing;
-use place::PlaceBox;
-use sample::{Accepted, Sample, sample_of, survey};
+use lines::Frame;
+use sample::{Sample, sample_of, survey};
 
 /// The sample of a line of four words, if it is one.
 fn sample_in(line: &str) -> Option<Sample> {
     let mut words = line.split_whitespace();
-    let motor = words.next()?;
-    let motor_time = words.next()?;
-    let root = words.next()?;
-    let root_time = words.next()?;
-    if words.next().is_some() {
-        return None;
-    }
-    sample_of(motor, motor_time, root, root_time)
+    let sample = sample_of(words.next()?, words.next()?, words.next()?, words.next()?)?;
+    words.next().is_none().then_some(sample)
 }
 
 /// Whether a line has nothing to read: it is empty, or a remark.
@@ -27,38 +22,16 @@ fn passed_over(line: &str) -> bool {
     text.is_empty() || text.starts_with('#')
 }
 
-fn print_accepted(rt: &HostRuntime, number: u64, accepted: Accepted) -> anyhow::Result<()> {
-    let motor = accepted.place.motor;
-    let root = accepted.place.root;
-    let code = accepted.code;
-    let lag = accepted.lag;
-    let delay = accepted.delay;
-    println!(rt; "{number} place {motor} {root} code {code} lag {lag} delay {delay}")?;
-    Ok(())
-}
-
-fn print_box(rt: &HostRuntime, found: PlaceBox) -> anyhow::Result<()> {
-    let depth = found.depth;
-    let places = found.rectangle();
-    let a = places.lowest_motor;
-    let b = places.highest_motor;
-    let c = places.lowest_root;
-    let d = places.highest_root;
-    println!(rt; "box depth {depth} motor {a} to {b} root {c} to {d}")?;
-    Ok(())
-}
-
 fn run(rt: &HostRuntime) -> anyhow::Result<()> {
     let mut codes: Vec<u32> = Vec::new(rt.alloc());
+    // The readings are counted apart from the lines, some of which are none.
     let mut number = 0u64;
-    let mut at = 0u64;
-    for line in rt.lines(rt.alloc()) {
+    for (at, line) in (1u64..).zip(rt.lines(rt.alloc())) {
         let line = line?;
-        at = at.saturating_add(1);
-        if passed_over(line.as_str()) {
+        if passed_over(&line) {
             continue;
         }
-        let Some(sample) = sample_in(line.as_str()) else {
+        let Some(sample) = sample_in(&line) else {
             println!(rt; "line {at}: not a reading")?;
             continue;
         };
@@ -66,21 +39,16 @@ fn run(rt: &HostRuntime) -> anyhow::Result<()> {
         match survey(sample) {
             Ok(accepted) => {
                 codes.push(accepted.code)?;
-                print_accepted(rt, number, accepted)?;
+                println!(rt; "{number} {accepted}")?;
             }
-            Err(fault) => {
-                let k = fault.number();
-                println!(rt; "{number} refused {k}")?;
-            }
+            Err(fault) => println!(rt; "{number} refused {}", fault.number())?,
         }
     }
-    match enclosing(codes.as_slice()) {
-        Some(found) => print_box(rt, found),
-        None => {
-            println!(rt; "no reading accepted")?;
-            Ok(())
-        }
+    match enclosing(&codes) {
+        Some(found) => println!(rt; "{}", Frame(found))?,
+        None => println!(rt; "no reading accepted")?,
     }
+    Ok(())
 }
 
 fn main(rt: HostRuntime) -> anyhow::Result<()> {

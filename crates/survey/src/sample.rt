@@ -26,23 +26,11 @@ pub struct Accepted {
 pub fn sample_of(motor: &str, motor_time: &str, root: &str, root_time: &str) -> Option<Sample>
     ensures value { Sampled motor.now motor_time.now root.now root_time.now result }
 {
-    let Ok(motor) = motor.parse::<u16>() else {
-        return None;
-    };
-    let Ok(motor_time) = motor_time.parse::<u32>() else {
-        return None;
-    };
-    let Ok(root) = root.parse::<u16>() else {
-        return None;
-    };
-    let Ok(root_time) = root_time.parse::<u32>() else {
-        return None;
-    };
     Some(Sample {
-        motor,
-        motor_time,
-        root,
-        root_time,
+        motor: motor.parse().ok()?,
+        motor_time: motor_time.parse().ok()?,
+        root: root.parse().ok()?,
+        root_time: root_time.parse().ok()?,
     })
 }
 

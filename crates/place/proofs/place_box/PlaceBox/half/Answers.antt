@@ -5,16 +5,16 @@ use Rattle.place.specs.Values.{box_of}
 use Rattle.place.proofs.BoxLaws.{holds_own, half_within}
 use Rattle.place.proofs.place_box.PlaceBox.half.Goals as goal
 
-pub returns : goal.returns
-returns c =
+pub returns-then-holds : goal.returns-then-holds
+returns-then-holds c =
     let E = box_of c.args.self in
     let code = c.args.code in
     let one : min (c.args.self.depth + 1) 32 ≡ suc c.args.self.depth = omega arith in
     let is : box_of c.new.result ≡ half E (point code) = c.new.ensures.value ∙ ap (λ (k : ℕ). cut k code) one in
-    let h : holds E code ≡ true = sym c.holds.ensures.value ∙ c.if-not-holds.false in
+    let h : holds E code ≡ true = sym c.holds.ensures.value ∙ c.if-holds.true in
     record {
       value = (
-        omega arith,
+        c.if-self-lt32.true,
         h,
         is,
         subst⁻¹ (λ (B : Box). holds B code ≡ true) is (holds_own (suc c.args.self.depth) code),

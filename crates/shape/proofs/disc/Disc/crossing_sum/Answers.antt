@@ -1,37 +1,43 @@
-use Rattle.std.proofs.Common.{◌≡◌, ℕ, suc, ◌+◌, ◌-◌, sym, refl, ap, ◌∙◌, subst, ap₂, le_trans, le_of_eq, arith}
+use Rattle.std.proofs.Common.{rules, tests, ◌≡◌, ℕ, zero, suc, ◌+◌, ◌-◌, map, sym, refl, ap, ◌∙◌, le_trans, le_of_eq, arith}
+use Rattle.std.specs.List.{sum, sum_by, range_with_len}
+use Rattle.std.proofs.lemmas.List.FromFn.{map-range_with_len_more}
+use Rattle.std.proofs.lemmas.List.Sums.{sum_by_push}
+use Rattle.std.proofs.lemmas.Iterator.{YieldsList-from_range, YieldsList-from_map}
+use Rattle.std.proofs.lemmas.Iterator.Adapters.{fits_from_length, at_most_from_yields_List}
+use Rattle.std.proofs.lemmas.Iterator.Consumers.{sum_from_yields_List}
 use Rattle.crossing.specs.Counting.{sum_below}
 use Rattle.crossing.specs.Discs.{added, crossing_sum}
 use Rattle.crossing.proofs.CrossingLaws.{disc_crossings}
 use Rattle.shape.proofs.disc.Disc.crossing_sum.Goals as goal
 
-pub loop-depth-init : goal.loop-depth-init
+pub sum-requires-clause-fits : goal.sum-requires-clause-fits
+sum-requires-clause-fits c =
+    fits_from_length _ _ 33 _ (at_most_from_yields_List (YieldsList-from_range 0 33 33 (cc) refl) (omega arith)) c.map.ensures.closure (omega arith)
+    (λ x r q k. search (rules, tests))
+
+-- the sum over the first n depths, as a list and by recursion
+over_depths : (n : ℕ) (f : ℕ → ℕ) → sum (map f (range_with_len 0 n)) ≡ sum_below n f
 unfolding sum_below
-loop-depth-init c = (refl, omega arith)
+over_depths zero f = refl
+over_depths (suc n) f =
+    let e : n + 1 ≡ suc n = omega arith in
+    ap (λ (k : ℕ). sum_by (λ x. x) (map f (range_with_len 0 k))) (sym e)
+    ∙ ap (sum_by (λ x. x)) (map-range_with_len_more f 0 n n (omega arith))
+    ∙ sum_by_push (λ x. x) (map f (range_with_len 0 n)) (f n)
+    ∙ ap (λ (s : ℕ). s + f n) (over_depths n f)
 
-pub overflow_add-sum : goal.overflow_add-sum
-overflow_add-sum c = omega (arith, c.loop-depth.invariant.1, c.added_at-sum.ensures.bound)
-
-one_more : (n s x : ℕ) (f : ℕ → ℕ) → s ≡ sum_below n f → x ≡ f n → s + x ≡ sum_below (n + 1) f
-unfolding sum_below
-one_more n s x f e h = ap₂ (λ (y z : ℕ). y + z) e h ∙ ap (λ (y : ℕ). sum_below y f) (let q : suc n ≡ n + 1 = omega arith in q)
-
-pub loop-depth-preserved : goal.loop-depth-preserved
-loop-depth-preserved c =
-    let d = c.args.self.now in (
-      one_more c.loop-depth.depth c.loop-depth.sum c.added_at-sum.result (λ k. added d.inner_radius (d.outer_radius - d.inner_radius) k)
-          c.loop-depth.invariant.0 c.added_at-sum.ensures.value,
-      omega (arith, c.loop-depth.invariant.1, c.added_at-sum.ensures.bound),
-    )
-
-all_depths : (n s r R : ℕ) → n ≡ 33 → s ≡ sum_below n (λ k. added r (R - r) k) → s ≡ crossing_sum r R
+value : (c : goal.After-sum) → c.sum.result ≡ crossing_sum c.args.self.now.inner_radius c.args.self.now.outer_radius
 unfolding crossing_sum
-all_depths n s r R e h = subst (λ (x : ℕ). s ≡ sum_below x (λ k. added r (R - r) k)) e h
-
-pub returns : goal.returns
-returns c =
+value c =
     let d = c.args.self.now in
-    let value = all_depths c.loop-depth.depth c.loop-depth.sum d.inner_radius d.outer_radius (omega arith) c.loop-depth.invariant.0 in
-    record {
-      value = value;
-      bound = le_trans (disc_crossings d.centre.motor d.centre.root d.inner_radius d.outer_radius d.nested) (le_of_eq (sym value));
-    }
+    let f = λ (k : ℕ). added d.inner_radius (d.outer_radius - d.inner_radius) k in
+    sum_from_yields_List c.map.result c.sum.result c.sum.ensures.ran (YieldsList-from_map _ f (YieldsList-from_range 0 33 33 (cc) refl) c.map.ensures.closure (λ x r q k. search (rules, tests)))
+    ∙ over_depths 33 f
+
+pub returns-clause-value : goal.returns-clause-value
+returns-clause-value c = value c
+
+pub returns-clause-bound : goal.returns-clause-bound
+returns-clause-bound c =
+    let d = c.args.self.now in
+    le_trans (disc_crossings d.centre.motor d.centre.root d.inner_radius d.outer_radius d.nested) (le_of_eq (sym (value c)))
