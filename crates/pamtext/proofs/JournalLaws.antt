@@ -1,10 +1,9 @@
 -- A journal grows by one line after another.
-use Rattle.std.proofs.Common.{◌≡◌, ℕ, ◌+◌, true, List, [], ◌∷◌, ◌++◌, length, take, Err, sym, refl, ap, ◌∙◌, append_assoc, append-nil}
+use Rattle.std.proofs.Common.{◌≡◌, ℕ, ◌+◌, true, List, [], ◌∷◌, ◌++◌, length, Err, sym, refl, ap, ◌∙◌, append_assoc, append-nil}
 use Rattle.std.specs.List.{flat_map}
-use Rattle.std.proofs.lemmas.List.{take_at, length_push}
+use Rattle.std.proofs.lemmas.List.{length_push}
 use Rattle.journal.specs.Heading.{mark, version}
 use Rattle.journal.specs.Layout.{spelled}
-use Rattle.journal.specs.Room.{Holds}
 use Rattle.journal.specs.declared.entry.Entry.{Entry}
 use Rattle.pamtext.specs.declared.fault.TextFault.{TextFault}
 use Rattle.pamtext.specs.declared.fault.TextFault.TheVariants.{Line, NoMemory}
@@ -19,16 +18,10 @@ adds_nothing bs line text is over =
     record { records = []; told = passes (ap passed (sym is) ∙ sym over) nothing; bytes = sym (append-nil bs) }
 
 -- A line that says a record adds the bytes of that record.
-pub adds_record : (bs line text after room : List ℕ) (len : ℕ) (e : Entry)
-    → text ≡ trimmed line → Says text e → Holds 21 room len (spelled e) → after ≡ bs ++ take len room → Adds bs line after
-adds_record bs line text after room len e is s holds add =
-    record {
-      records = e ∷ [];
-      told = says (rw is at s) nothing;
-      bytes =
-          let front = ap (take len) holds.text ∙ take_at (spelled e) _ len (sym holds.count) in
-          add ∙ ap (λ x. bs ++ x) (front ∙ sym (append-nil (spelled e)));
-    }
+pub adds_record : (bs line text after written : List ℕ) (e : Entry)
+    → text ≡ trimmed line → Says text e → written ≡ spelled e → after ≡ bs ++ written → Adds bs line after
+adds_record bs line text after written e is s spells add =
+    record { records = e ∷ []; told = says (rw is at s) nothing; bytes = add ∙ ap (λ x. bs ++ x) (spells ∙ sym (append-nil (spelled e))) }
 
 -- The records of some lines and of more are those of all.
 tells_both : {lines more : List (List ℕ)} {es fs : List Entry} → Tells lines es → Tells more fs → Tells (lines ++ more) (es ++ fs)

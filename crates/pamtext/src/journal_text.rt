@@ -19,8 +19,7 @@ fn add_line(bytes: &mut Vec<u8>, line: &str, number: u64) -> Result<(), TextFaul
     let Some(entry) = entry_of(text) else {
         return Err(TextFault::Line(number));
     };
-    let encoded = encode(entry);
-    bytes.extend_from_slice(&encoded.bytes[0..encoded.len])?;
+    bytes.extend_from_slice(encode(entry).as_bytes())?;
     Ok(())
 }
 
