@@ -1,5 +1,4 @@
 -- The lemmas that this crate's proofs share.
-pub mod Rooms
-pub mod Digits
+pub mod PaddedLaws
 pub mod Fronts
 pub mod Letters

@@ -3,5 +3,6 @@ pub mod Faults
 pub mod Heading
 pub mod Layout
 pub mod Lines
+pub mod Padded
 pub mod Records
-pub mod Room
+pub mod Written

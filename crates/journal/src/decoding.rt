@@ -4,17 +4,18 @@ ghost use Rattle.journal.specs.Records.{ReadsFields, Decodes, OneDecoding, Decod
 
 use crate::entry::Entry;
 use crate::fault::FormatFault;
-use crate::front::{front16, front32, pair16, pair32};
+use crate::front::Front;
 
 /// The record that the fields after the letter A make.
 fn enter(bytes: &[u8]) -> Option<(Entry, &[u8])>
     ensures value { MatchOption result (length bytes.now < 20) (λ x. ReadsFields 65 bytes.now x.0 x.1.now) }
 {
-    let (motor, bytes) = front16(bytes)?;
-    let (motor_time, bytes) = front32(bytes)?;
-    let (root, bytes) = front16(bytes)?;
-    let (root_time, bytes) = front32(bytes)?;
-    let (priority, weight, bytes) = pair32(bytes)?;
+    let (motor, bytes) = u16::front(bytes)?;
+    let (motor_time, bytes) = u32::front(bytes)?;
+    let (root, bytes) = u16::front(bytes)?;
+    let (root_time, bytes) = u32::front(bytes)?;
+    let (priority, bytes) = u32::front(bytes)?;
+    let (weight, bytes) = u32::front(bytes)?;
     Some((
         Entry::Enter {
             motor,
@@ -32,7 +33,8 @@ fn enter(bytes: &[u8]) -> Option<(Entry, &[u8])>
 fn strike(bytes: &[u8]) -> Option<(Entry, &[u8])>
     ensures value { MatchOption result (length bytes.now < 4) (λ x. ReadsFields 83 bytes.now x.0 x.1.now) }
 {
-    let (motor, root, bytes) = pair16(bytes)?;
+    let (motor, bytes) = u16::front(bytes)?;
+    let (root, bytes) = u16::front(bytes)?;
     Some((Entry::Strike { motor, root }, bytes))
 }
 
@@ -40,8 +42,10 @@ fn strike(bytes: &[u8]) -> Option<(Entry, &[u8])>
 fn again(bytes: &[u8]) -> Option<(Entry, &[u8])>
     ensures value { MatchOption result (length bytes.now < 12) (λ x. ReadsFields 71 bytes.now x.0 x.1.now) }
 {
-    let (motor, root, bytes) = pair16(bytes)?;
-    let (time, weight, bytes) = pair32(bytes)?;
+    let (motor, bytes) = u16::front(bytes)?;
+    let (root, bytes) = u16::front(bytes)?;
+    let (time, bytes) = u32::front(bytes)?;
+    let (weight, bytes) = u32::front(bytes)?;
     Some((
         Entry::Again {
             motor,
@@ -57,8 +61,10 @@ fn again(bytes: &[u8]) -> Option<(Entry, &[u8])>
 fn disc(bytes: &[u8]) -> Option<(Entry, &[u8])>
     ensures value { MatchOption result (length bytes.now < 12) (λ x. ReadsFields 68 bytes.now x.0 x.1.now) }
 {
-    let (motor, root, bytes) = pair16(bytes)?;
-    let (inner, outer, bytes) = pair32(bytes)?;
+    let (motor, bytes) = u16::front(bytes)?;
+    let (root, bytes) = u16::front(bytes)?;
+    let (inner, bytes) = u32::front(bytes)?;
+    let (outer, bytes) = u32::front(bytes)?;
     Some((
         Entry::Disc {
             motor,
@@ -74,9 +80,11 @@ fn disc(bytes: &[u8]) -> Option<(Entry, &[u8])>
 fn band(bytes: &[u8]) -> Option<(Entry, &[u8])>
     ensures value { MatchOption result (length bytes.now < 10) (λ x. ReadsFields 66 bytes.now x.0 x.1.now) }
 {
-    let (lowest_motor, highest_motor, bytes) = pair16(bytes)?;
-    let (lowest_root, highest_root, bytes) = pair16(bytes)?;
-    let (margin, bytes) = front16(bytes)?;
+    let (lowest_motor, bytes) = u16::front(bytes)?;
+    let (highest_motor, bytes) = u16::front(bytes)?;
+    let (lowest_root, bytes) = u16::front(bytes)?;
+    let (highest_root, bytes) = u16::front(bytes)?;
+    let (margin, bytes) = u16::front(bytes)?;
     Some((
         Entry::Band {
             lowest_motor,
@@ -93,19 +101,17 @@ fn band(bytes: &[u8]) -> Option<(Entry, &[u8])>
 pub fn decode(bytes: &[u8]) -> Result<(Entry, &[u8]), FormatFault>
     ensures value { MatchResult result (λ x. Decodes bytes.now (Ok (x.0, x.1.now))) (λ f. Decodes bytes.now (Err f)) }
 {
-    if bytes.len() == 0 {
-        return Err(FormatFault::CutShort);
-    }
-    let fields = &bytes[1..];
-    match bytes[0] {
-        b'A' => enter(fields).ok_or(FormatFault::CutShort),
-        b'G' => again(fields).ok_or(FormatFault::CutShort),
-        b'S' => strike(fields).ok_or(FormatFault::CutShort),
-        b'D' => disc(fields).ok_or(FormatFault::CutShort),
-        b'B' => band(fields).ok_or(FormatFault::CutShort),
-        b'H' => Ok((Entry::Height, fields)),
-        _ => Err(FormatFault::UnknownLetter),
-    }
+    let (letter, fields) = bytes.split_first().ok_or(FormatFault::CutShort)?;
+    let read = match *letter {
+        b'A' => enter(fields),
+        b'G' => again(fields),
+        b'S' => strike(fields),
+        b'D' => disc(fields),
+        b'B' => band(fields),
+        b'H' => Some((Entry::Height, fields)),
+        _ => return Err(FormatFault::UnknownLetter),
+    };
+    read.ok_or(FormatFault::CutShort)
 }
 
 /// The contract of `decode` leaves no choice. Callers may rely on that.

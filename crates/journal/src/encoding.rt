@@ -1,35 +1,14 @@
 //! A record is spelled as the bytes that `decode` reads.
-ghost use Rattle.std.specs.Prelude.{◌≡◌, ◌+◌, ◌≤◌, length};
-ghost use Rattle.journal.specs.Layout.{be16, be32, letter, fields, spelled};
-ghost use Rattle.journal.specs.Room.{Adds, Holds};
+ghost use Rattle.std.specs.Prelude.{◌≡◌, ◌+◌, ◌≤◌, ◌++◌};
+ghost use Rattle.journal.specs.Layout.{letter, fields, spelled};
+ghost use Rattle.journal.specs.Padded.{Holds};
+ghost use Rattle.journal.specs.Written.{text};
 
 use crate::entry::Entry;
-use crate::room::{put, put_word};
+use crate::padded::Padded;
 
 /// The bytes of one record, zeros after them, and how many of them belong to the record.
-#[derive(Clone, Copy)]
-pub struct Encoded {
-    pub bytes: [u8; 21],
-    pub len: usize,
-}
-
-/// Writes a number of 16 bits.
-fn put16(room: &mut [u8], at: usize, n: u16) -> usize
-    requires { at + 2 ≤ length room.old }
-    ensures value { Adds room.old at room.new result (be16 n) }
-    ensures place { result ≡ at + 2 }
-{
-    put_word(room, at, &n.to_be_bytes())
-}
-
-/// Writes a number of 32 bits.
-fn put32(room: &mut [u8], at: usize, n: u32) -> usize
-    requires { at + 4 ≤ length room.old }
-    ensures value { Adds room.old at room.new result (be32 n) }
-    ensures place { result ≡ at + 4 }
-{
-    put_word(room, at, &n.to_be_bytes())
-}
+pub type Encoded = Padded<21>;
 
 /// The letter that the record begins with.
 fn letter_of(entry: Entry) -> u8
@@ -45,10 +24,10 @@ fn letter_of(entry: Entry) -> u8
     }
 }
 
-/// Writes the fields of a record.
-fn put_fields(room: &mut [u8], at: usize, entry: Entry) -> usize
-    requires { at + 20 ≤ length room.old }
-    ensures value { Adds room.old at room.new result (fields entry) }
+/// Writes the fields of a record. It is one arm for each kind of record, and splitting the arms would make it no plainer.
+fn put_fields(encoded: &mut Encoded, entry: Entry)
+    requires { encoded.old.len + 20 ≤ 21 }
+    ensures value { text encoded.new ≡ text encoded.old ++ fields entry }
 {
     match entry {
         Entry::Enter {
@@ -59,12 +38,12 @@ fn put_fields(room: &mut [u8], at: usize, entry: Entry) -> usize
             priority,
             weight,
         } => {
-            let at = put16(room, at, motor);
-            let at = put32(room, at, motor_time);
-            let at = put16(room, at, root);
-            let at = put32(room, at, root_time);
-            let at = put32(room, at, priority);
-            put32(room, at, weight)
+            encoded.put(&motor.to_be_bytes());
+            encoded.put(&motor_time.to_be_bytes());
+            encoded.put(&root.to_be_bytes());
+            encoded.put(&root_time.to_be_bytes());
+            encoded.put(&priority.to_be_bytes());
+            encoded.put(&weight.to_be_bytes());
         }
         Entry::Again {
             motor,
@@ -72,14 +51,14 @@ fn put_fields(room: &mut [u8], at: usize, entry: Entry) -> usize
             time,
             weight,
         } => {
-            let at = put16(room, at, motor);
-            let at = put16(room, at, root);
-            let at = put32(room, at, time);
-            put32(room, at, weight)
+            encoded.put(&motor.to_be_bytes());
+            encoded.put(&root.to_be_bytes());
+            encoded.put(&time.to_be_bytes());
+            encoded.put(&weight.to_be_bytes());
         }
         Entry::Strike { motor, root } => {
-            let at = put16(room, at, motor);
-            put16(room, at, root)
+            encoded.put(&motor.to_be_bytes());
+            encoded.put(&root.to_be_bytes());
         }
         Entry::Disc {
             motor,
@@ -87,10 +66,10 @@ fn put_fields(room: &mut [u8], at: usize, entry: Entry) -> usize
             inner,
             outer,
         } => {
-            let at = put16(room, at, motor);
-            let at = put16(room, at, root);
-            let at = put32(room, at, inner);
-            put32(room, at, outer)
+            encoded.put(&motor.to_be_bytes());
+            encoded.put(&root.to_be_bytes());
+            encoded.put(&inner.to_be_bytes());
+            encoded.put(&outer.to_be_bytes());
         }
         Entry::Band {
             lowest_motor,
@@ -99,13 +78,13 @@ fn put_fields(room: &mut [u8], at: usize, entry: Entry) -> usize
             highest_root,
             margin,
         } => {
-            let at = put16(room, at, lowest_motor);
-            let at = put16(room, at, highest_motor);
-            let at = put16(room, at, lowest_root);
-            let at = put16(room, at, highest_root);
-            put16(room, at, margin)
+            encoded.put(&lowest_motor.to_be_bytes());
+            encoded.put(&highest_motor.to_be_bytes());
+            encoded.put(&lowest_root.to_be_bytes());
+            encoded.put(&highest_root.to_be_bytes());
+            encoded.put(&margin.to_be_bytes());
         }
-        Entry::Height => at,
+        Entry::Height => {}
     }
 }
 
@@ -113,8 +92,8 @@ fn put_fields(room: &mut [u8], at: usize, entry: Entry) -> usize
 pub fn encode(entry: Entry) -> Encoded
     ensures value { Holds 21 result.bytes result.len (spelled entry) }
 {
-    let mut bytes = [0; 21];
-    let at = put(&mut bytes, 0, letter_of(entry));
-    let len = put_fields(&mut bytes, at, entry);
-    Encoded { bytes, len }
+    let mut encoded = Encoded::new();
+    encoded.put(&[letter_of(entry)]);
+    put_fields(&mut encoded, entry);
+    encoded
 }

@@ -1,31 +1,17 @@
 //! The heading of a journal.
-ghost use Rattle.std.specs.Prelude.{◌≡◌, ◌++◌, Ok, Err, MatchOption, MatchResult};
-ghost use Rattle.journal.specs.Heading.{mark, Lacks, Heads, OneHeading};
+ghost use Rattle.std.specs.Prelude.{Ok, Err, MatchResult};
+ghost use Rattle.journal.specs.Heading.{Heads, OneHeading};
 
 use crate::fault::FormatFault;
-use crate::front::front16;
 
 /// How many bytes a journal may have.
 const LONGEST: usize = 32768;
 
-/// The bytes after the mark, if they begin with it.
-fn after_mark(bytes: &[u8]) -> Option<&[u8]>
-    ensures value { MatchOption result (Lacks bytes.now mark) (λ x. bytes.now ≡ mark ++ x.now) }
-{
-    if bytes.len() < 3 {
-        return None;
-    }
-    if bytes[0] != b'P' {
-        return None;
-    }
-    if bytes[1] != b'A' {
-        return None;
-    }
-    if bytes[2] != b'M' {
-        return None;
-    }
-    Some(&bytes[3..])
-}
+/// The letters that a journal begins with.
+const MARK: [u8; 3] = *b"PAM";
+
+/// The bytes of the version, which is 1.
+const VERSION: [u8; 2] = [0, 1];
 
 /// The bytes after mark and version. Where several faults apply, the one with the least number is answered.
 pub fn heading(bytes: &[u8]) -> Result<&[u8], FormatFault>
@@ -34,16 +20,10 @@ pub fn heading(bytes: &[u8]) -> Result<&[u8], FormatFault>
     if bytes.len() > LONGEST {
         return Err(FormatFault::TooLong);
     }
-    let Some(marked) = after_mark(bytes) else {
-        return Err(FormatFault::WrongMark);
-    };
-    let Some((version, records)) = front16(marked) else {
-        return Err(FormatFault::WrongVersion);
-    };
-    if version != 1 {
-        return Err(FormatFault::WrongVersion);
-    }
-    Ok(records)
+    let marked = bytes.strip_prefix(&MARK).ok_or(FormatFault::WrongMark)?;
+    marked
+        .strip_prefix(&VERSION)
+        .ok_or(FormatFault::WrongVersion)
 }
 
 /// The contract of `heading` leaves no choice. Callers may rely on that.

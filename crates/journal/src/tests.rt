@@ -58,13 +58,13 @@ fn heading_fault(bytes: &[u8]) -> u8 {
 /// A record is spelled by the given bytes, is read back from them, and is cut short at every place before their end.
 fn spelled(rt: &impl Abort, entry: Entry, bytes: &[u8]) -> Result<(), Fail> {
     let encoded = encode(entry);
-    let text = &encoded.bytes[0..encoded.len];
+    let text = encoded.as_bytes();
     assert!(rt; text == bytes);
     let (read, left) = decode(text)?;
     assert_eq!(rt; read, entry);
     assert_eq!(rt; left.len(), 0);
-    for end in 0..encoded.len {
-        assert_eq!(rt; decode_fault(&encoded.bytes[0..end]), 14);
+    for end in 0..text.len() {
+        assert_eq!(rt; decode_fault(&text[..end]), 14);
     }
     Ok(())
 }
@@ -72,7 +72,7 @@ fn spelled(rt: &impl Abort, entry: Entry, bytes: &[u8]) -> Result<(), Fail> {
 /// The line of a report is the given text, with zeros after it.
 fn printed(rt: &impl Abort, number: u32, report: Report, text: &[u8]) {
     let line = line_of(number, report);
-    assert!(rt; &line.bytes[0..line.len] == text);
+    assert!(rt; line.as_bytes() == text);
     for byte in &line.bytes[line.len..] {
         assert_eq!(rt; *byte, 0);
     }

@@ -1,10 +1,12 @@
 -- A journal grows by one line after another.
-use Rattle.std.proofs.Common.{◌≡◌, ℕ, ◌+◌, true, List, [], ◌∷◌, ◌++◌, length, take, Err, sym, refl, ap, ◌∙◌, append_assoc, append-nil}
+use Rattle.std.proofs.Common.{◌≡◌, ℕ, ◌+◌, ◌≤◌, ◌==◌, true, List, [], ◌∷◌, ◌++◌, length, Err, sym, refl, ap, ◌∙◌, append_assoc, append-nil, length-append, arith, Some, None, Option, Bor}
+use Rattle.std.specs.Iterator.{AlwaysYields}
 use Rattle.std.specs.List.{flat_map}
-use Rattle.std.proofs.lemmas.List.{take_at, length_push}
+use Rattle.std.proofs.lemmas.List.{length_push}
+use Rattle.std.proofs.lemmas.List.Splits.{length-slice_split}
+use Rattle.std.proofs.lemmas.List.Sums.{count_by-le-length}
 use Rattle.journal.specs.Heading.{mark, version}
 use Rattle.journal.specs.Layout.{spelled}
-use Rattle.journal.specs.Room.{Holds}
 use Rattle.journal.specs.declared.entry.Entry.{Entry}
 use Rattle.pamtext.specs.declared.fault.TextFault.{TextFault}
 use Rattle.pamtext.specs.declared.fault.TextFault.TheVariants.{Line, NoMemory}
@@ -19,16 +21,10 @@ adds_nothing bs line text is over =
     record { records = []; told = passes (ap passed (sym is) ∙ sym over) nothing; bytes = sym (append-nil bs) }
 
 -- A line that says a record adds the bytes of that record.
-pub adds_record : (bs line text after room : List ℕ) (len : ℕ) (e : Entry)
-    → text ≡ trimmed line → Says text e → Holds 21 room len (spelled e) → after ≡ bs ++ take len room → Adds bs line after
-adds_record bs line text after room len e is s holds add =
-    record {
-      records = e ∷ [];
-      told = says (rw is at s) nothing;
-      bytes =
-          let front = ap (take len) holds.text ∙ take_at (spelled e) _ len (sym holds.count) in
-          add ∙ ap (λ x. bs ++ x) (front ∙ sym (append-nil (spelled e)));
-    }
+pub adds_record : (bs line text after written : List ℕ) (e : Entry)
+    → text ≡ trimmed line → Says text e → written ≡ spelled e → after ≡ bs ++ written → Adds bs line after
+adds_record bs line text after written e is s spells add =
+    record { records = e ∷ []; told = says (rw is at s) nothing; bytes = add ∙ ap (λ x. bs ++ x) (spells ∙ sym (append-nil (spelled e))) }
 
 -- The records of some lines and of more are those of all.
 tells_both : {lines more : List (List ℕ)} {es fs : List Entry} → Tells lines es → Tells more fs → Tells (lines ++ more) (es ++ fs)
@@ -88,3 +84,50 @@ module _ {text bs : List ℕ} {number : ℕ} {line : List ℕ} {left : List (Lis
 pub ends : {text bs : List ℕ} {number : ℕ} → SoFar text bs number [] → Written text bs
 ends so =
     record { records = so.records; told = rw (so.lines, append-nil so.before) so.told; bytes = so.bytes }
+
+-- What comes next is the first of what is left to come.
+next_of : {S A B : Type 0} (steps : S → Option A → S → Type 0) (v : A → B) (s t : S) (x : A) (left : List B)
+    → AlwaysYields steps v s left → steps s (Some x) t → (ys : List B) × (left ≡ v x ∷ ys) × AlwaysYields steps v t ys
+next_of steps v s t x [] comes step = absurd (comes x t step)
+next_of steps v s t x (y ∷ ys) comes step = let first = comes.1 x t step in (ys, ap (λ z. z ∷ ys) (sym first.0), first.1)
+
+-- Where nothing comes, nothing is left.
+none_of : {S A B : Type 0} (steps : S → Option A → S → Type 0) (v : A → B) (s t : S) (left : List B)
+    → AlwaysYields steps v s left → steps s None t → left ≡ []
+none_of steps v s t [] comes step = refl
+none_of steps v s t (y ∷ ys) comes step = absurd (comes.0 t step)
+
+-- The lines that are left are those that an iterator gives, and the next of them has the number after those before.
+pub record Coming {S : Type 0} (steps : S → Option (Bor (List ℕ)) → S → Type 0) (s : S) (text bs : List ℕ) (next : ℕ) : Type 0 where
+  pub number : ℕ
+  pub left : List (List ℕ)
+  pub so : SoFar text bs number left
+  pub follows : next ≡ number + 1
+  pub comes : AlwaysYields steps (λ x. x.now) s left
+
+module _ {S : Type 0} {steps : S → Option (Bor (List ℕ)) → S → Type 0} {s : S} {text bs : List ℕ} {next : ℕ} (g : Coming steps s text bs next) (t : S) where
+  module _ (line : Bor (List ℕ)) (step : steps s (Some line) t) where
+    first : (ys : List (List ℕ)) × (g.left ≡ line.now ∷ ys) × AlwaysYields steps (λ x. x.now) t ys
+    first = next_of steps (λ x. x.now) s t line g.left g.comes step
+
+    so_first : SoFar text bs g.number (line.now ∷ first.0)
+    so_first = rw first.1 at g.so
+
+    -- The line that comes was added.
+    pub comes_on : {after : List ℕ} → Adds bs line.now after → Coming steps t text after (next + 1)
+    comes_on add = record { number = g.number + 1; left = first.0; so = goes_on so_first add; follows = ap (λ n. n + 1) g.follows; comes = first.2 }
+
+    -- The line that comes is refused.
+    pub comes_to_stop : (fault : TextFault) → Refuses line.now next fault → Writes text (Err fault)
+    comes_to_stop fault refuses = stops so_first fault (rw g.follows at refuses)
+
+  -- No line comes.
+  pub comes_to_end : steps s None t → Written text bs
+  comes_to_end step = let none = none_of steps (λ x. x.now) s t g.left g.comes step in ends (rw none at g.so)
+
+-- The next line has no number beyond those that a text of its length may have.
+pub few : {S : Type 0} {steps : S → Option (Bor (List ℕ)) → S → Type 0} {s : S} {text bs : List ℕ} {next : ℕ} → Coming steps s text bs next → next ≤ length text + 2
+few {text = text} g =
+    let all = length-slice_split (λ b. b == 10) text in
+    let cuts = count_by-le-length (λ b. b == 10) text in
+    omega (arith, g.follows, g.so.count, ap length g.so.lines, length-append g.so.before g.left, all, cuts)

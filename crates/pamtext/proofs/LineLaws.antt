@@ -1,12 +1,9 @@
 -- White space around a line, and the byte that ends it.
-use Rattle.std.proofs.Common.{◌≡◌, ℕ, zero, suc, ◌-◌, ◌<◌, ◌≤◌, Bool, true, false, eqb, List, [], ◌∷◌, ◌++◌, reverse, length, get_or, take, drop, Some, None, Decides, sym, refl, ap, ◌∙◌, arith, Bor}
-use mathlib.Core.Bool.{false≢true}
+use Rattle.std.proofs.Common.{◌≡◌, ℕ, zero, suc, ◌-◌, ◌<◌, ◌≤◌, true, false, List, [], ◌∷◌, ◌++◌, reverse, length, get_or, take, drop, sym, refl, ap, ◌∙◌, arith}
 use mathlib.Core.List.{reverse-append, reverse-reverse}
 use Rattle.std.specs.Char.{is_ascii_whitespace}
 use Rattle.std.proofs.lemmas.List.{take-append-drop, length-reverse, length-drop, length-take, get_or-reverse, drop_at}
-use Rattle.std.proofs.lemmas.Str.Pattern.{IsSplitOnceResult, split_parts}
-use Rattle.std.proofs.lemmas.Bool.{eq-eqb, ne_eqb}
-use Rattle.pamtext.specs.Lines.{lines_of, after_white, trimmed, passed}
+use Rattle.pamtext.specs.Lines.{after_white, trimmed}
 
 -- Where the first m bytes are white space and the next is not, the text from m on is left.
 white_before : (m : ℕ) (bs : List ℕ) → ((i : ℕ) → i < m → is_ascii_whitespace (get_or bs i 0) ≡ true)
@@ -54,35 +51,3 @@ pub trims : (m : ℕ) (bs t : List ℕ) → t ≡ take (length t) (drop m bs)
 trims m bs t is front stops end ends =
     let short : length t ≤ length (drop m bs) = omega (arith, ap length is ∙ length-take (length t) (drop m bs)) in
     is ∙ sym (ap (λ x. reverse (after_white (reverse x))) (white_before m bs front stops) ∙ white_behind (length t) (drop m bs) short end ends)
-
--- A trimmed line that is not empty is passed over if its first byte is that of a remark.
-pub passed_by_first : (bs : List ℕ) (r : Bool) → 0 < length bs → Decides r (get_or bs 0 0 ≡ 35) → r ≡ passed bs
-passed_by_first [] r some h = absurd (omega arith)
-passed_by_first (b ∷ bs) true some h = sym (eq-eqb b 35 (h.0 refl))
-passed_by_first (b ∷ bs) false some h = sym (ne_eqb b 35 (λ e. false≢true (h.1 e)))
-
--- A text that lacks the byte 10 is one line.
-lacks_end : (bs : List ℕ) → ((i : ℕ) → i < length bs → get_or bs i 0 ≡ 10 → ⊥) → lines_of bs ≡ bs ∷ []
-unfolding lines_of
-lacks_end [] h = refl
-lacks_end (b ∷ bs) h =
-    let other : eqb b 10 ≡ false = ne_eqb b 10 (h 0 (omega arith)) in
-    rw (other, lacks_end bs (λ i l. h (suc i) (omega arith)))
-
--- A text is its first line, if that lacks the byte 10, and the lines after that byte.
-has_end : (line bs : List ℕ) → ((i : ℕ) → i < length line → get_or line i 0 ≡ 10 → ⊥) → lines_of (line ++ (10 ∷ bs)) ≡ line ∷ lines_of bs
-unfolding lines_of
-has_end [] bs h = refl
-has_end (b ∷ line) bs h =
-    let other : eqb b 10 ≡ false = ne_eqb b 10 (h 0 (omega arith)) in
-    rw (other, has_end line bs (λ i l. h (suc i) (omega arith)))
-
--- A cut at the first byte 10 gives the first line and the text of the others.
-pub first_line : (bs : List ℕ) (line after : Bor (List ℕ)) → IsSplitOnceResult 10 bs (Some (line, after)) → lines_of bs ≡ line.now ∷ lines_of after.now
-first_line bs line after h =
-    let parts = split_parts 10 bs (Some (line, after)) h (omega arith) in
-    ap lines_of parts.0 ∙ has_end line.now after.now parts.1
-
--- Where there is no cut, one line is left.
-pub last_line : (bs : List ℕ) → IsSplitOnceResult 10 bs None → lines_of bs ≡ bs ∷ []
-last_line bs h = lacks_end bs (split_parts 10 bs None h (omega arith))

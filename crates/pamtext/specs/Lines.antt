@@ -1,5 +1,4 @@
 -- The lines of a text, and what each of them says.
---   longer_by     lines of which the first has one byte more in front
 --   lines_of      the lines of a text
 --   after_white   a text without the white space that it begins with
 --   trimmed       a line without the white space at both ends
@@ -8,18 +7,13 @@
 --   Tells         the records that lines say, in order
 use Rattle.std.specs.Prelude.{◌≡◌, ℕ, Bool, true, false, cond, List, [], ◌∷◌, reverse, ◌==◌}
 use Rattle.std.specs.Char.{is_ascii_whitespace}
+use Rattle.std.specs.List.{slice_split}
 use Rattle.journal.specs.declared.entry.Entry.{Entry}
 use Rattle.pamtext.specs.Texts.{Says}
 
--- The byte is put before the first of some lines.
-abbrev pub longer_by : ℕ → List (List ℕ) → List (List ℕ)
-longer_by b [] = (b ∷ []) ∷ []
-longer_by b (line ∷ lines) = (b ∷ line) ∷ lines
-
 -- The byte 10 ends a line, and what follows the last one is a line too.
-unfoldable pub lines_of : List ℕ → List (List ℕ)
-lines_of [] = [] ∷ []
-lines_of (b ∷ bs) = cond (b == 10) ([] ∷ lines_of bs) (longer_by b (lines_of bs))
+abbrev pub lines_of : List ℕ → List (List ℕ)
+lines_of = slice_split (λ b. b == 10)
 
 -- The text without the white space that it begins with.
 unfoldable pub after_white : List ℕ → List ℕ

@@ -16,11 +16,8 @@ fn add_line(bytes: &mut Vec<u8>, line: &str, number: u64) -> Result<(), TextFaul
     if passed_over(text) {
         return Ok(());
     }
-    let Some(entry) = entry_of(text) else {
-        return Err(TextFault::Line(number));
-    };
-    let encoded = encode(entry);
-    bytes.extend_from_slice(&encoded.bytes[0..encoded.len])?;
+    let entry = entry_of(text).ok_or(TextFault::Line(number))?;
+    bytes.extend_from_slice(encode(entry).as_bytes())?;
     Ok(())
 }
 
@@ -30,14 +27,9 @@ pub fn journal_of(heap: Global, text: &str) -> Result<Vec<u8>, TextFault>
 {
     let mut bytes = Vec::new(heap);
     bytes.extend_from_slice(b"PAM\x00\x01")?;
-    let mut rest = text;
-    let mut number = 0u64;
-    while let Some((line, after)) = rest.split_once('\n') {
-        number += 1;
+    for (number, line) in (1..).zip(text.split('\n')) {
         add_line(&mut bytes, line, number)?;
-        rest = after;
     }
-    add_line(&mut bytes, rest, number + 1)?;
     Ok(bytes)
 }
 

@@ -13,8 +13,5 @@ pub(crate) fn trimmed_line(line: &str) -> &str
 pub(crate) fn passed_over(line: &str) -> bool
     ensures value { result ≡ passed line.now }
 {
-    if line.is_empty() {
-        return true;
-    }
-    line.starts_with('#')
+    line.is_empty() || line.starts_with('#')
 }

@@ -11,11 +11,5 @@ pub(crate) fn number_of(word: &str, largest: u32) -> Option<u32>
     if word.len() > 1 && word.starts_with('0') {
         return None;
     }
-    let Ok(number) = word.parse::<u32>() else {
-        return None;
-    };
-    if number > largest {
-        return None;
-    }
-    Some(number)
+    word.parse().ok().filter(|number| *number <= largest)
 }

@@ -1,7 +1,7 @@
 //! The line of a record, by its answer.
 ghost use Rattle.std.specs.Prelude.{◌≡◌, ◌++◌, is_ok, if◌then◌else◌};
 ghost use Rattle.journal.specs.Lines.{printed};
-ghost use Rattle.journal.specs.Room.{Holds};
+ghost use Rattle.journal.specs.Padded.{Holds};
 ghost use Rattle.replay.specs.Faults.{fault_report};
 ghost use Rattle.replay.specs.Lines.{numbered as with_number, line_text};
 
@@ -46,6 +46,5 @@ pub(crate) fn put_line(
 ) -> Result<(), AllocError>
     ensures items { out.new.items ≡ (if is_ok result then out.old.items ++ line_text «record» answer else out.old.items) }
 {
-    let line = line(record, answer);
-    out.extend_from_slice(&line.bytes[..line.len])
+    out.extend_from_slice(line(record, answer).as_bytes())
 }

@@ -40,8 +40,7 @@ fn journal_of(heap: Global, records: &[Entry]) -> Result<Vec<u8>, Fail> {
     let mut bytes = Vec::new(heap);
     bytes.extend_from_slice(b"PAM\x00\x01")?;
     for entry in records {
-        let encoded = encode(*entry);
-        bytes.extend_from_slice(&encoded.bytes[..encoded.len])?;
+        bytes.extend_from_slice(encode(*entry).as_bytes())?;
     }
     Ok(bytes)
 }

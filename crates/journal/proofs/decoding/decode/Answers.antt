@@ -1,39 +1,21 @@
 -- Each letter leads to the record of its fields.
-use Rattle.std.proofs.Common.{refl, inl, rules}
-use Rattle.std.proofs.lemmas.List.{nil_from_length}
+use Rattle.std.proofs.Common.{◌≡◌, ◌∷◌, refl, MatchOption, rules}
 use Rattle.journal.specs.declared.entry.Entry.TheVariants.{Enter, Again, Strike, Disc, Band}
-use Rattle.journal.proofs.Letters.{begins_letter, reads, decodes}
+use Rattle.journal.specs.Records.{Reads, Cut}
+use Rattle.journal.proofs.Letters.{reads, by_letter, or_cut}
 use Rattle.journal.proofs.decoding.decode.Goals as goal
+use Rattle.journal.proofs.decoding.decode.Goals.{in-65, in-71, in-83, in-68, in-66, in-72}
 
-pub returns-then-bytes-eq0 : goal.returns-then-bytes-eq0
-returns-then-bytes-eq0 c = record { value = inl (nil_from_length c.args.bytes.now (search rules)) }
-
-pub returns-in-65 : goal.returns-in-65
-returns-in-65 c = record {
-  value = decodes (λ x. x.now) (Enter 0 0 0 0 0 0) c.enter.result c.ok_or.result (begins_letter c.args.bytes.now 65 (search rules) (search rules)) refl c.enter.ensures.value c.ok_or.ensures.value;
-}
-
-pub returns-in-71 : goal.returns-in-71
-returns-in-71 c = record {
-  value = decodes (λ x. x.now) (Again 0 0 0 0) c.again.result c.ok_or-in-71.result (begins_letter c.args.bytes.now 71 (search rules) (search rules)) refl c.again.ensures.value c.ok_or-in-71.ensures.value;
-}
-
-pub returns-in-83 : goal.returns-in-83
-returns-in-83 c = record {
-  value = decodes (λ x. x.now) (Strike 0 0) c.strike.result c.ok_or-in-83.result (begins_letter c.args.bytes.now 83 (search rules) (search rules)) refl c.strike.ensures.value c.ok_or-in-83.ensures.value;
-}
-
-pub returns-in-68 : goal.returns-in-68
-returns-in-68 c = record {
-  value = decodes (λ x. x.now) (Disc 0 0 0 0) c.disc.result c.ok_or-in-68.result (begins_letter c.args.bytes.now 68 (search rules) (search rules)) refl c.disc.ensures.value c.ok_or-in-68.ensures.value;
-}
-
-pub returns-in-66 : goal.returns-in-66
-returns-in-66 c = record {
-  value = decodes (λ x. x.now) (Band 0 0 0 0 0) c.band.result c.ok_or-in-66.result (begins_letter c.args.bytes.now 66 (search rules) (search rules)) refl c.band.ensures.value c.ok_or-in-66.ensures.value;
-}
-
-pub returns-in-72 : goal.returns-in-72
-returns-in-72 c = record {
-  value = reads (begins_letter c.args.bytes.now 72 (search rules) (search rules)) (record { kind = refl; bytes = refl; fits = tt });
-}
+pub returns : goal.returns
+returns c =
+    let letter : c.args.bytes.now ≡ c.in_ok-letter.letter.now ∷ c.in_ok-letter.fields.now = search rules in
+    let read : MatchOption c.match-letter.read (Cut c.args.bytes.now) (λ x. Reads c.args.bytes.now x.0 x.1.now) =
+    elim c.match-letter.branch [
+      | in-65 w ↦ rw w.read-is (by_letter (λ x. x.now) (Enter 0 0 0 0 0 0) w.enter-read.result (rw w.in-65.is at letter) refl w.enter-read.ensures.value)
+      | in-71 w ↦ rw w.read-is (by_letter (λ x. x.now) (Again 0 0 0 0) w.again-read.result (rw w.in-71.is at letter) refl w.again-read.ensures.value)
+      | in-83 w ↦ rw w.read-is (by_letter (λ x. x.now) (Strike 0 0) w.strike-read.result (rw w.in-83.is at letter) refl w.strike-read.ensures.value)
+      | in-68 w ↦ rw w.read-is (by_letter (λ x. x.now) (Disc 0 0 0 0) w.disc-read.result (rw w.in-68.is at letter) refl w.disc-read.ensures.value)
+      | in-66 w ↦ rw w.read-is (by_letter (λ x. x.now) (Band 0 0 0 0 0) w.band-read.result (rw w.in-66.is at letter) refl w.band-read.ensures.value)
+      | in-72 w ↦ rw w.read-is (reads (rw w.in-72.is at letter) (record { kind = refl; bytes = refl; fits = tt }))
+    ] in
+    record { value = or_cut (λ x. x.now) c.args.bytes.now c.match-letter.read c.ok_or-2.result read c.ok_or-2.ensures.value }

@@ -1,6 +1,6 @@
 -- A line is passed over, or its record is spelled after the bytes so far.
-use native.Mathlib.Nat.{sub-zero}
-use Rattle.std.proofs.Common.{vec_items}
+use Rattle.std.proofs.Common.{◌≡◌, Some, vec_items, ◌∙◌, rules}
+use Rattle.journal.proofs.PaddedLaws.{held_front}
 use Rattle.pamtext.proofs.JournalLaws.{adds_nothing, adds_record}
 use Rattle.pamtext.proofs.journal_text.add_line.Goals as goal
 
@@ -10,7 +10,9 @@ returns-then-passed_over c = record {
 }
 
 pub returns : goal.returns
-returns c = record {
-  value = adds_record (vec_items c.args.bytes.now) c.args.line.now c.trimmed_line-text.result.now (vec_items c.extend_from_slice.new.self) c.encode-encoded.result.bytes c.encode-encoded.result.len c.in-Some.entry
-      c.trimmed_line-text.ensures.value c.in-Some.ensures.value c.encode-encoded.ensures.value (simp sub-zero at c.in_ok-extend_from_slice.ensures.items);
-}
+returns c =
+    let is : c.entry_of.result ≡ Some c.in_ok-entry.entry = search rules in
+    record {
+      value = adds_record (vec_items c.args.bytes.now) c.args.line.now c.trimmed_line-text.result.now (vec_items c.extend_from_slice.new.self) c.as_bytes.result.now c.in_ok-entry.entry
+          c.trimmed_line-text.ensures.value (rw is at c.entry_of.ensures.value) (c.as_bytes.ensures.value ∙ held_front 21 c.encode.ensures.value) c.in_ok-extend_from_slice.ensures.items;
+    }

@@ -1,14 +1,11 @@
--- The lines that were read are added, and no more lines were read than bytes.
-use Rattle.std.proofs.Common.{◌+◌, ◌≤◌, length, vec_items}
-use denote.Text.{Utf8}
-use denote.Shadow.{shadow}
-use Rattle.pamtext.specs.Lines.{lines_of}
-use Rattle.pamtext.proofs.JournalLaws.{SoFar}
+-- The lines that came were added, and those that are left come.
+use Rattle.std.proofs.Common.{◌≡◌, vec_items}
+use Rattle.std.specs.Iterator.Adapters.{zip_first, zip_second}
+use Rattle.std.specs.Str.Iter.{split_steps}
+use Rattle.std.specs.Str.Pattern.{FindsChar}
+use Rattle.pamtext.proofs.JournalLaws.{Coming}
 use Rattle.pamtext.proofs.journal_text.journal_of.Given as goal
 
-abbrev pub invariant-loop-line : goal.invariant-loop-line
-invariant-loop-line l =
-    SoFar l.text (vec_items l.bytes) l.number (lines_of l.rest) × (l.number + length l.rest ≤ length l.text) × shadow (Utf8 l.rest)
-
-abbrev pub decreases-loop-line : goal.decreases-loop-line
-decreases-loop-line l = length l.rest
+abbrev pub invariant-loop-number : goal.invariant-loop-number
+invariant-loop-number l =
+    Coming (split_steps FindsChar (λ a b. b ≡ a)) (zip_second l.number-iterator) l.text (vec_items l.bytes) (zip_first l.number-iterator).start

@@ -1,9 +1,10 @@
 -- A word that is refused is no decimal up to the largest, and one from which a number is read is its decimal.
-use Rattle.std.proofs.Common.{◌≡◌, ◌^◌, ◌<◌, length, get_or, arith}
-use borrow.Author.Tests.{both_ways}
+use Rattle.std.proofs.Common.{◌≡◌, ◌^◌, ◌<◌, length, get_or, ap, ◌∙◌, arith, rules}
+use borrow.Author.Tests.{both_ways, tests}
+use Rattle.std.specs.Result.{result_ok}
 use Rattle.std.proofs.lemmas.Fmt.{parse-decimal, decimal_nonempty}
 use Rattle.std.proofs.lemmas.Str.Pattern.{starts_char}
-use Rattle.pamtext.proofs.NumberLaws.{only_digits, no_leading_zero, is_decimal}
+use Rattle.pamtext.proofs.NumberLaws.{only_digits, no_leading_zero, is_decimal, read_of, kept}
 use Rattle.pamtext.proofs.number.number_of.Goals as goal
 use Rattle.pamtext.proofs.number.number_of.Goals.{else-word-gt1-via-then-word-gt1+else-starts_with-2, else-word-gt1-via-else-word-gt1}
 
@@ -23,21 +24,8 @@ returns-then-starts_with-2 c = record {
       no_leading_zero n (omega arith) (rw e at long) (rw e at zero);
 }
 
-pub returns-in_default : goal.returns-in_default
-returns-in_default c = record {
-  value = λ n h e. c.in_default.not-Ok n (parse-decimal 32 n c.args.word.now c.parse.result (omega arith) (omega arith) e c.parse.ensures.value.0);
-}
-
-pub returns-then-number-largest : goal.returns-then-number-largest
-returns-then-number-largest c = record {
-  value = λ n h e.
-      let back = parse-decimal 32 n c.args.word.now c.parse.result (omega arith) (omega arith) e c.parse.ensures.value.0 in
-      let same : n ≡ c.in-Ok.number = cc in
-      omega arith;
-}
-
 -- A word of more than one byte does not begin with a zero.
-no_zero : (c : goal.Else-number-largest) → 1 < length c.args.word.now → get_or c.args.word.now 0 0 ≡ 48 → ⊥
+no_zero : (c : goal.After-filter) → 1 < length c.args.word.now → get_or c.args.word.now 0 0 ≡ 48 → ⊥
 no_zero c long zero =
     elim c.else-word-gt1.branch [
       | else-word-gt1-via-then-word-gt1+else-starts_with-2 w ↦
@@ -47,12 +35,17 @@ no_zero c long zero =
     ]
 
 -- The word does not begin with a sign.
-no_plus : (c : goal.Else-number-largest) → get_or c.args.word.now 0 0 ≡ 43 → ⊥
+no_plus : (c : goal.After-filter) → get_or c.args.word.now 0 0 ≡ 43 → ⊥
 no_plus c plus =
     both_ways c.starts_with.result c.if-starts_with.false
     ((starts_char 43 c.args.word.now c.starts_with.result c.starts_with.ensures.cases (omega arith) (omega arith)).1 plus)
 
 pub returns : goal.returns
 returns c = record {
-  value = (omega arith, is_decimal c.args.word.now c.in-Ok.number c.parse.result c.parse.ensures.value.0 c.in-Ok.is (no_plus c) (no_zero c));
+  value =
+      kept c.args.largest c.args.word.now c.ok.result c.filter.result
+      (λ n b k. search (rules, tests))
+      c.filter.ensures
+      (λ n h e. c.ok.ensures.value ∙ ap result_ok (parse-decimal 32 n c.args.word.now c.parse.result (omega arith) (omega arith) e c.parse.ensures.value.0))
+      (λ n e. is_decimal c.args.word.now n c.parse.result c.parse.ensures.value.0 (read_of c.parse.result n (e ∙ c.ok.ensures.value)) (no_plus c) (no_zero c));
 }
