@@ -2,10 +2,10 @@
 --   Figure, Follows    a figure, and what it states
 --   reading, P, Q, S   readings by their places, priorities and sums
 --   figures            the list
-use Rattle.std.specs.Prelude.{◌≡◌, ℕ, ◌%◌, ◌^◌, List, [], ◌∷◌}
+use Rattle.std.specs.Prelude.{◌≡◌, ℕ, List, [], ◌∷◌}
 use Rattle.place.specs.Codes.{code_of}
 use Rattle.place.specs.Boxes.{smallest, point, motor_side, root_side}
-use Rattle.tally.specs.Sums.{zero_sum, sum_joined, remainder_fits}
+use Rattle.tally.specs.Sums.{zero_sum, sum_of, sum_joined}
 use Rattle.tally.specs.declared.sum.Sum.{Sum}
 use Rattle.crossing.specs.Discs.{within, crossing_sum}
 use Rattle.quadtreap.specs.Tree.{Reading, map_nodes, map_height}
@@ -35,7 +35,7 @@ Follows (disc rs m n r R t e) = ((disc_walk rs m n r R).tally.value ≡ t) × ((
 
 -- The reading at a place with a priority and a sum.
 abbrev pub reading : ℕ → ℕ → ℕ → ℕ → Reading Sum
-reading m r p v = record { code = code_of m r; priority = p; tally = record { value = v % 2 ^ 64; fits = remainder_fits v } }
+reading m r p v = record { code = code_of m r; priority = p; tally = sum_of v }
 
 -- The reading at (0, 0).
 abbrev pub P : Reading Sum

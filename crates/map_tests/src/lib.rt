@@ -29,14 +29,9 @@ mod tests {
     };
 
     fn whole(motor: u16, root: u16) -> Result<WholeReading, Fail> {
-        match HalfReading::take(motor, 0).complete(root, 0) {
-            Ok(reading) => Ok(reading),
-            Err(back) => {
-                let (half, _fault) = back;
-                let _numbers = half.give_up();
-                Err(Fail::new("refused"))
-            }
-        }
+        HalfReading::take(motor, 0)
+            .complete_or_give_up(root, 0)
+            .map_err(|_| Fail::new("refused"))
     }
 
     #[test]

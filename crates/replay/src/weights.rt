@@ -12,7 +12,7 @@ pub(crate) fn weigh(weight: u32, time: u32) -> Weighed
     ensures value { result ≡ weighed weight time }
 {
     Pair {
-        first: Sum::of(weight as u64),
+        first: Sum::of(u64::from(weight)),
         second: Span::at(time),
     }
 }

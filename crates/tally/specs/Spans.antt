@@ -1,6 +1,6 @@
 -- The times that a span covers, and how spans are joined.
 --   times_in, earliest, latest   the first and the last time of a span
---   lesser, greater              of two times that may be absent
+--   combined, lesser, greater    of two times that may be absent
 --   span_joined                  two spans joined
 use Rattle.std.specs.Prelude.{ℕ, min, max, Some, None, Option, option_map}
 use Rattle.tally.specs.declared.span.Span.{Span}
@@ -19,17 +19,19 @@ earliest s = option_map (λ times. times.0) (times_in s)
 abbrev pub latest : Span → Option ℕ
 latest s = option_map (λ times. times.1) (times_in s)
 
+-- Two times made into one by f, or the one that is there.
+abbrev pub combined : (ℕ → ℕ → ℕ) → Option ℕ → Option ℕ → Option ℕ
+combined f None y = y
+combined f (Some a) None = Some a
+combined f (Some a) (Some b) = Some (f a b)
+
 -- The lesser of two times, or the one that is there.
 abbrev pub lesser : Option ℕ → Option ℕ → Option ℕ
-lesser None y = y
-lesser (Some a) None = Some a
-lesser (Some a) (Some b) = Some (min a b)
+lesser = combined min
 
 -- The greater of two times, or the one that is there.
 abbrev pub greater : Option ℕ → Option ℕ → Option ℕ
-greater None y = y
-greater (Some a) None = Some a
-greater (Some a) (Some b) = Some (max a b)
+greater = combined max
 
 -- Two spans are joined into the least and the greatest of their times, and an empty one leaves the other as it stands.
 abbrev pub span_joined : Span → Span → Span

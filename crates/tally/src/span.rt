@@ -69,12 +69,11 @@ impl Tally for Span {
         ensures first { earliest result ≡ lesser (earliest self) (earliest other) }
         ensures last { latest result ≡ greater (latest self) (latest other) }
     {
-        match self {
-            Span::Empty => other,
-            Span::Times(a, b) => match other {
-                Span::Empty => self,
-                Span::Times(c, d) => Span::Times(a.min(b).min(c.min(d)), a.max(b).max(c.max(d))),
-            },
+        match (self, other) {
+            (Span::Empty, span) | (span, Span::Empty) => span,
+            (Span::Times(a, b), Span::Times(c, d)) => {
+                Span::Times(a.min(b).min(c.min(d)), a.max(b).max(c.max(d)))
+            }
         }
     }
 }
