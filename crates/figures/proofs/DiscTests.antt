@@ -1,9 +1,9 @@
 -- The tests of a disc by its nearest and its farthest place, which compute, and that they are the defined ones.
-use Rattle.std.proofs.Common.{◌≡◌, ℕ, ◌+◌, ◌-◌, ◌*◌, ◌%◌, ◌^◌, ◌<◌, ltb, leb, List, sym, refl, ap, ◌∙◌, subst, arith}
+use Rattle.std.proofs.Common.{◌≡◌, ℕ, ◌+◌, ◌-◌, ◌*◌, ◌/◌, ◌%◌, ◌^◌, ◌<◌, ltb, leb, List, sym, refl, ap, ◌∙◌, subst, arith, pow_pos}
 use native.Mathlib.Nat.{mul-mod_left}
 use Rattle.place.specs.Codes.{motor_of, root_of}
 use Rattle.place.specs.Boxes.{prefix, Box, in_box, motor_side, root_side, between, Formed}
-use Rattle.place.proofs.SideLaws.{motor_end, root_end, box_places}
+use Rattle.place.proofs.SideLaws.{last_motor, last_root, box_places}
 use Rattle.tally.specs.Sums.{zero_sum, sum_joined}
 use Rattle.tally.specs.declared.sum.Sum.{Sum}
 use Rattle.crossing.specs.Discs.{within, gap_to, reach_to}
@@ -36,10 +36,10 @@ module _ (B : Box) (f : Formed B) where
       (mul-mod_left (prefix B.depth B.code) (2 ^ (32 - B.depth)))
 
   motors : (high_motor B < 2 ^ 16) × (high_motor B + 1 ≡ low_motor B + motor_side B.depth)
-  motors = motor_end B.depth B.code f.deep f.small clear (low_motor B) (motor_side B.depth) refl refl
+  motors = omega (arith, last_motor B.depth B.code f.deep f.small clear, pow_pos (16 - (B.depth + 1) / 2))
 
   roots : (high_root B < 2 ^ 16) × (high_root B + 1 ≡ low_root B + root_side B.depth)
-  roots = root_end B.depth B.code f.deep f.small clear (low_root B) (root_side B.depth) refl refl
+  roots = omega (arith, last_root B.depth B.code f.deep f.small clear, pow_pos (16 - B.depth / 2))
 
   places : (x y : ℕ) → x < 2 ^ 16 → y < 2 ^ 16 → in_box B x y ≡ between (low_motor B) (high_motor B) (low_root B) (high_root B) x y
   places x y hx hy =

@@ -135,9 +135,16 @@ even_clear (suc n) (suc (suc j)) c h =
     let z : c % 2 ≡ 0 = omega arith in
     subst (λ (x : ℕ). even_bits (suc n) c % 2 ^ x ≡ 0) (sym (half_up (suc j))) (twice_clear (even_bits n (c / 4)) (c % 2) (suc j / 2) i z)
 
--- a multiple of a side is where its interval begins
-begins : (m a : ℕ) → m % a ≡ 0 → m / a * a ≡ m
-begins m a h = omega (arith, div-add-mod' m a)
+-- an interval of counts of a side, from a count x that is a multiple of it: which counts are in it, and that it stays below 2 ^ 16
+in_side : (a x m : ℕ) → 0 < a → x % a ≡ 0 → (m / a ≡ x / a) ↔ ((x ≤ m) × (m < x + a))
+in_side a x m h e =
+    let begins : x / a * a ≡ x = omega (arith, div-add-mod' x a) in
+    subst (λ (y : ℕ). (m / a ≡ x / a) ↔ ((y ≤ m) × (m < y + a))) begins (quotient_iff a (x / a) m h)
+
+side_fits : (s x : ℕ) → s ≤ 16 → x < 2 ^ 16 → x % 2 ^ s ≡ 0 → x + 2 ^ s ≤ 2 ^ 16
+side_fits s x h l e =
+    let begins : x / 2 ^ s * 2 ^ s ≡ x = omega (arith, div-add-mod' x (2 ^ s)) in
+    subst (λ (y : ℕ). y + 2 ^ s ≤ 2 ^ 16) begins (interval_fits s x h l)
 
 -- a place between four ends
 pub between_parts : (lm hm lr hr m r : ℕ) → between lm hm lr hr m r ≡ true → (lm ≤ m) × (m ≤ hm) × (lr ≤ r) × (r ≤ hr)
@@ -161,19 +168,20 @@ module _ (k c : ℕ) (deep : k ≤ 32) (fits : c < 2 ^ 32) (clear : c % 2 ^ (32 
   abbrev r₀ : ℕ
   r₀ = root_of c
 
-  first_motor : m₀ / motor_side k * motor_side k ≡ m₀
+  motor_clear : m₀ % motor_side k ≡ 0
   unfolding motor_of
-  first_motor = begins m₀ (motor_side k) (subst (λ (x : ℕ). m₀ % x ≡ 0) (motor_side_is k deep) (odd_clear 16 (32 - k) c clear))
+  motor_clear = subst (λ (x : ℕ). m₀ % x ≡ 0) (motor_side_is k deep) (odd_clear 16 (32 - k) c clear)
 
-  first_root : r₀ / root_side k * root_side k ≡ r₀
+  root_clear : r₀ % root_side k ≡ 0
   unfolding root_of
-  first_root = begins r₀ (root_side k) (subst (λ (x : ℕ). r₀ % x ≡ 0) (root_side_is k deep) (even_clear 16 (32 - k) c clear))
+  root_clear = subst (λ (x : ℕ). r₀ % x ≡ 0) (root_side_is k deep) (even_clear 16 (32 - k) c clear)
 
+  -- where a side ends
   pub last_motor : m₀ + motor_side k ≤ 2 ^ 16
-  last_motor = subst (λ (x : ℕ). x + motor_side k ≤ 2 ^ 16) first_motor (interval_fits (16 - (k + 1) / 2) m₀ (omega arith) (motor_lt c))
+  last_motor = side_fits (16 - (k + 1) / 2) m₀ (omega arith) (motor_lt c) motor_clear
 
   pub last_root : r₀ + root_side k ≤ 2 ^ 16
-  last_root = subst (λ (x : ℕ). x + root_side k ≤ 2 ^ 16) first_root (interval_fits (16 - k / 2) r₀ (omega arith) (root_lt c))
+  last_root = side_fits (16 - k / 2) r₀ (omega arith) (root_lt c) root_clear
 
   abbrev box : Box
   box = record { depth = k; code = c }
@@ -187,10 +195,10 @@ module _ (k c : ℕ) (deep : k ≤ 32) (fits : c < 2 ^ 32) (clear : c % 2 ^ (32 
       s = box_sides k m r m₀ r₀ deep hm hr (motor_lt c) (root_lt c)
 
       qm : (m / motor_side k ≡ m₀ / motor_side k) ↔ ((m₀ ≤ m) × (m < m₀ + motor_side k))
-      qm = subst (λ (x : ℕ). (m / motor_side k ≡ m₀ / motor_side k) ↔ ((x ≤ m) × (m < x + motor_side k))) first_motor (quotient_iff (motor_side k) (m₀ / motor_side k) m (pow_pos (16 - (k + 1) / 2)))
+      qm = in_side (motor_side k) m₀ m (pow_pos (16 - (k + 1) / 2)) motor_clear
 
       qr : (r / root_side k ≡ r₀ / root_side k) ↔ ((r₀ ≤ r) × (r < r₀ + root_side k))
-      qr = subst (λ (x : ℕ). (r / root_side k ≡ r₀ / root_side k) ↔ ((x ≤ r) × (r < x + root_side k))) first_root (quotient_iff (root_side k) (r₀ / root_side k) r (pow_pos (16 - k / 2)))
+      qr = in_side (root_side k) r₀ r (pow_pos (16 - k / 2)) root_clear
 
       to : holds box (code_of m r) ≡ true → (m₀ ≤ m) × (m < m₀ + motor_side k) × (r₀ ≤ r) × (r < r₀ + root_side k)
       to e =
@@ -201,13 +209,6 @@ module _ (k c : ℕ) (deep : k ≤ 32) (fits : c < 2 ^ 32) (clear : c % 2 ^ (32 
 
       from : (m₀ ≤ m) × (m < m₀ + motor_side k) × (r₀ ≤ r) × (r < r₀ + root_side k) → holds box (code_of m r) ≡ true
       from b = true_holds box (code_of m r) (s.1 (qm.1 (b.0, b.1), qr.1 (b.2, b.3)) ∙ ap (prefix k) (code_of_lem c fits))
-
-  -- where a side ends
-  pub motor_end : (m a : ℕ) → m ≡ m₀ → a ≡ motor_side k → (m + (a - 1) < 2 ^ 16) × (m + (a - 1) + 1 ≡ m₀ + motor_side k)
-  motor_end m a em ea = omega (arith, last_motor, pow_pos (16 - (k + 1) / 2))
-
-  pub root_end : (r b : ℕ) → r ≡ r₀ → b ≡ root_side k → (r + (b - 1) < 2 ^ 16) × (r + (b - 1) + 1 ≡ r₀ + root_side k)
-  root_end r b er eb = omega (arith, last_root, pow_pos (16 - k / 2))
 
   -- the places of the box as a test of the four ends
   pub box_places : (lm hm lr hr m r : ℕ) → lm ≡ m₀ → hm + 1 ≡ m₀ + motor_side k → lr ≡ r₀ → hr + 1 ≡ r₀ + root_side k → m < 2 ^ 16 → r < 2 ^ 16
