@@ -1,5 +1,6 @@
 //! The question for the tally of a shape.
 ghost use Rattle.std.specs.Prelude.{◌≡◌, ◌+◌, ◌*◌, ◌^◌, ◌<◌, ◌≤◌, false, slice_index_or};
+ghost use Rattle.std.specs.Option.{unwrap_or};
 ghost use Rattle.quadtreap.specs.Walk.{answer};
 ghost use Rattle.map.specs.Maps.{state_of, Lends};
 ghost use Rattle.records.specs.Writes.{at, box_of};
@@ -134,10 +135,10 @@ impl<'a, K: Tally> Map<'a, K> {
 
     /// The walk from the root. It has at most two turns to each place, so that any tables give an answer.
     fn walk<S: Shape>(&self, shape: &S) -> Spot<K>
-        ensures value { result ≡ ran K.Tally.joined K.Tally.neutral (numbered (S.Shape.inner shape.now) (S.Shape.outer shape.now)) self.now.records.now self.now.tallies.now (self.now.places * 2) (starts self.now.root K.Tally.neutral) }
+        ensures value { result ≡ ran K.Tally.joined K.Tally.neutral (numbered (S.Shape.inner shape.now) (S.Shape.outer shape.now)) self.now.records.now self.now.tallies.now (self.now.places * 2) (starts (unwrap_or self.now.root 65535) K.Tally.neutral) }
     {
         let mut spot = Spot {
-            node: self.root,
+            node: self.root.unwrap_or(NONE),
             down: true,
             tally: K::neutral_value(),
             expanded: 0,
