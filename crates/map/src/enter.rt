@@ -1,5 +1,5 @@
 //! Entering a reading.
-ghost use Rattle.std.specs.Prelude.{◌≡◌, ◌+◌, ◌/◌, ◌^◌, ◌<◌, nat_le};
+ghost use Rattle.std.specs.Prelude.{◌≡◌, ◌+◌, ◌/◌, ◌^◌, ◌<◌, false, nat_le};
 ghost use Rattle.map.specs.Maps.{state_of, Lends};
 ghost use Rattle.records.specs.Free.{next as next_free, left_after, four_taken, four_left};
 ghost use Rattle.tables.specs.Calls.{enters};
@@ -8,7 +8,7 @@ ghost use Rattle.tables.specs.Stands.{Keeps, started, grown};
 use crate::renewal::mend_and_rise;
 use crate::{Map, is_reading, store};
 use quadtreap::Rank;
-use records::{FourPlaces, FreePlaces, NONE};
+use records::{FourPlaces, FreePlaces};
 use tables::MapFault;
 use tally::Tally;
 
@@ -16,6 +16,7 @@ impl<'a, K: Tally> Map<'a, K> {
     /// Whether as many readings are live as the places have room for.
     fn is_full(&self) -> bool
         ensures value { result ≡ nat_le ((self.now.places + 3) / 4) self.now.live }
+        ensures room { result ≡ false → self.now.live + 1 < 2 ^ 16 }
     {
         (self.places as u32 + 3) / 4 <= self.live as u32
     }
@@ -44,7 +45,7 @@ impl<'a, K: Tally> Map<'a, K> {
         let (i, left) = self.one_free();
         nodes::plant_first::<K>(self.records, i, Rank { priority, code });
         store(self.tallies, i, extra);
-        self.root = i;
+        self.root = Some(i);
         self.live = 1;
         self.free = left;
     }
@@ -60,7 +61,8 @@ impl<'a, K: Tally> Map<'a, K> {
         nodes::plant::<K>(self.records, i, Rank { priority, code }, n);
         store(self.tallies, n.reading, extra);
         store(self.tallies, n.outer, K::neutral_value());
-        self.root = mend_and_rise(self.records, self.tallies, places, n.shrink);
+        let top = mend_and_rise(self.records, self.tallies, places, n.shrink);
+        self.root = Some(top);
         self.live += 1;
         self.free = left;
     }
@@ -71,14 +73,14 @@ impl<'a, K: Tally> Map<'a, K> {
         ensures keeps { Keeps K.Tally.joined K.Tally.neutral (state_of self.old) (state_of self.new) (enters code priority extra) result }
         ensures lends { Lends self.old self.new }
     {
-        if self.root == NONE {
+        let Some(root) = self.root else {
             if self.is_full() {
                 return Err(MapFault::Full);
             }
             self.start(code, priority, extra);
             return Ok(1);
-        }
-        let leaf = self.descend(code);
+        };
+        let leaf = self.descend(root, code);
         let record = self.node(leaf);
         if is_reading(record, code) {
             return Err(MapFault::Taken);

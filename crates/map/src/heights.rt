@@ -4,7 +4,6 @@ ghost use Rattle.map.specs.Maps.{state_of, Lends};
 ghost use Rattle.tables.specs.Heights.{Heights};
 
 use crate::Map;
-use records::NONE;
 use tally::Tally;
 
 impl<'a, K: Tally> Map<'a, K> {
@@ -21,9 +20,9 @@ impl<'a, K: Tally> Map<'a, K> {
     fn levels(&self) -> u16
         ensures value { Heights K.Tally.joined K.Tally.neutral (state_of self.now) result }
     {
-        if self.root == NONE {
+        let Some(root) = self.root else {
             return 0;
-        }
-        nodes::height::<K>(self.records, self.root, self.places)
+        };
+        nodes::height::<K>(self.records, root, self.places)
     }
 }

@@ -20,7 +20,7 @@ mod tallies;
 
 use crate::renewal::climb;
 pub use comparison::{Compared, compare};
-use records::{FreePlaces, Kind, NONE, Record};
+use records::{FreePlaces, Kind, Record};
 pub use tables::{MapFault, Tallied};
 use tally::Tally;
 
@@ -64,7 +64,7 @@ pub struct Map<'a, K> {
     pub(crate) records: &'a mut [Record],
     pub(crate) tallies: &'a mut [K],
     pub(crate) places: u16,
-    pub(crate) root: u16,
+    pub(crate) root: Option<u16>,
     pub(crate) live: u16,
     pub(crate) free: FreePlaces,
 }
@@ -81,7 +81,7 @@ impl<'a, K: Tally> Map<'a, K> {
             records,
             tallies,
             places,
-            root: NONE,
+            root: None,
             live: 0,
             free: nodes::none_used(),
         }
@@ -101,21 +101,19 @@ impl<'a, K: Tally> Map<'a, K> {
         entry(self.tallies, i)
     }
 
-    /// The leaf where a code leads.
-    pub(crate) fn descend(&self, code: u32) -> u16
-        ensures { Descends K self.now.records.now self.now.root code self.now.places result }
+    /// The leaf where a code leads from the root.
+    pub(crate) fn descend(&self, root: u16, code: u32) -> u16
+        ensures { Descends K self.now.records.now root code self.now.places result }
     {
-        nodes::descend::<K>(self.records, self.root, code, self.places as u32)
+        nodes::descend::<K>(self.records, root, code, self.places as u32)
     }
 
     /// The leaf of the reading with a code, and its record.
     pub(crate) fn find(&self, code: u32) -> Option<(u16, Record)>
         ensures value { MatchOption result (Lacks K.Tally.joined K.Tally.neutral (state_of self.now) code) (λ f. LeafOf (state_of self.now) code f.0 f.1) }
     {
-        if self.root == NONE {
-            return None;
-        }
-        let leaf = self.descend(code);
+        let root = self.root?;
+        let leaf = self.descend(root, code);
         let r = self.node(leaf);
         if is_reading(r, code) {
             return Some((leaf, r));

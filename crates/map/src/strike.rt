@@ -36,7 +36,7 @@ impl<'a, K: Tally> Map<'a, K> {
         let r = self.node(i);
         let top = self.root_above(i);
         climb(self.records, self.tallies, places, r.parent);
-        self.root = top;
+        self.root = Some(top);
         self.live = self.live.saturating_sub(1);
         let before = self.free;
         let after = nodes::give_four(self.records, before, n);
@@ -48,7 +48,7 @@ impl<'a, K: Tally> Map<'a, K> {
         ensures run { state_of self.new ≡ emptied_state (state_of self.old) i }
         ensures lends { Lends self.old self.new }
     {
-        self.root = NONE;
+        self.root = None;
         self.live = self.live.saturating_sub(1);
         let before = self.free;
         self.free = nodes::give(self.records, before, i);
@@ -59,14 +59,13 @@ impl<'a, K: Tally> Map<'a, K> {
         ensures keeps { Keeps K.Tally.joined K.Tally.neutral (state_of self.old) (state_of self.new) (strikes code) result }
         ensures lends { Lends self.old self.new }
     {
-        let Some((leaf, r)) = self.find(code) else {
+        let (Some(root), Some((leaf, r))) = (self.root, self.find(code)) else {
             return Err(MapFault::Absent);
         };
         if r.parent == NONE {
             self.strike_last(leaf);
             return Ok(self.live);
         }
-        let root = self.root;
         let budget = self.places as u32;
         match nodes::strike::<K>(self.records, root, code, budget) {
             Sinking::Done(i, places) => {

@@ -95,10 +95,9 @@ impl<'a, K: Tally> Map<'a, K> {
         ensures value { result ≡ starts self.now.root K.Tally.neutral }
     {
         Spot {
-            position: if self.root == NONE {
-                Position::Finished
-            } else {
-                Position::Down(self.root)
+            position: match self.root {
+                Some(root) => Position::Down(root),
+                None => Position::Finished,
             },
             found: Tallied {
                 tally: K::neutral_value(),

@@ -1,5 +1,6 @@
 -- A tally joined to a live reading: what the map holds then.
-use Rattle.std.proofs.Common.{◌≡◌, ℕ, ◌+◌, ◌≤◌, min, true, false, cond, ◌≢◌, List, length, get_or, set, Ok, Err, sym, refl, ap, ◌∙◌, subst, arith, length-set, get_or-set_other}
+use Rattle.std.proofs.Common.{◌≡◌, ℕ, ◌+◌, ◌≤◌, min, true, false, cond, List, length, get_or, set, Ok, Err, sym, refl, ap, ◌∙◌, subst, arith, length-set, get_or-set_other}
+use Rattle.std.specs.Prelude.{Some, Option as Maybe}
 use mathlib.Core.Option.{none, some}
 use Rattle.std.proofs.lemmas.Bool.{eq-eqb}
 use Rattle.records.specs.declared.record.Record.{Record}
@@ -38,8 +39,8 @@ module _ {K : Type 0} (join : K → K → K) (e : K) (k : ℕ) (v : K) where
         unchanged = λ h. refl;
       }
 
-  module _ (s : State K) (rs : List (Reading K)) (st : Stands join e s rs) (far : s.root ≢ 65535) (i : ℕ) (path : List (PairFrame K)) (C : Box) (r : Reading K)
-      (whole : put_in_all path (placed_leaf i C (reading r)) ≡ held k join e s rs st far) (is : k ≡ r.code) where
+  module _ (s : State K) (rs : List (Reading K)) (st : Stands join e s rs) (root : ℕ) (far : s.root ≡ Some root) (i : ℕ) (path : List (PairFrame K)) (C : Box) (r : Reading K)
+      (whole : put_in_all path (placed_leaf i C (reading r)) ≡ held k join e s rs st root far) (is : k ≡ r.code) where
     abbrev r' : Reading K
     r' = carry (more join k v) r
 
@@ -68,7 +69,7 @@ module _ {K : Type 0} (join : K → K → K) (e : K) (k : ℕ) (v : K) where
     s' = state s.records ts2 s.places s.root s.live s.free
 
     lain : LiesTallied join e s.records ts (put_in_all path (placed_leaf i C (reading r)))
-    lain = subst (LiesTallied join e s.records ts) (sym whole) (held_lain k join e s rs st far)
+    lain = subst (LiesTallied join e s.records ts) (sym whole) (held_lain k join e s rs st root far)
 
     focus : LiesAmong s.records way old
     focus = lies_among s.records path (placed_leaf i C (reading r)) lain.kept
@@ -82,7 +83,7 @@ module _ {K : Type 0} (join : K → K → K) (e : K) (k : ℕ) (v : K) where
     right' : RanksStand after
     right' = right_swap path (placed_leaf i C (reading r)) (placed_leaf i C (reading r')) refl tt lain.right
 
-    old_nodes_of : nodes_of (held k join e s rs st far) ≡ plug way old
+    old_nodes_of : nodes_of (held k join e s rs st root far) ≡ plug way old
     old_nodes_of = ap nodes_of (sym whole) ∙ nodes_frames path (placed_leaf i C (reading r))
 
     new_nodes_of : nodes_of after ≡ plug way new
@@ -103,8 +104,8 @@ module _ {K : Type 0} (join : K → K → K) (e : K) (k : ℕ) (v : K) where
     short : length way ≤ s.places
     short =
         let w = way_short join e way old in
-        let n : nodes (unplaced (plug way old)) ≡ nodes (tree_in (held k join e s rs st far)) = ap (λ p. nodes (unplaced p)) (sym old_nodes_of) in
-        let f = held_few k join e s rs st far in
+        let n : nodes (unplaced (plug way old)) ≡ nodes (tree_in (held k join e s rs st root far)) = ap (λ p. nodes (unplaced p)) (sym old_nodes_of) in
+        let f = held_few k join e s rs st root far in
         omega arith
 
     climbed_up : Climbs join e s.records ts1 ts2 way new
@@ -112,10 +113,10 @@ module _ {K : Type 0} (join : K → K → K) (e : K) (k : ℕ) (v : K) where
 
     same_places : (j : ℕ) → occurs j (nodes_of after) ≡ in_tree j st.placed
     same_places j =
-        ap (occurs j) new_nodes_of ∙ occurs_plug way new j ∙ sym (occurs_plug way old j) ∙ ap (occurs j) (sym old_nodes_of) ∙ ap (in_tree j) (sym (held_is k join e s rs st far))
+        ap (occurs j) new_nodes_of ∙ occurs_plug way new j ∙ sym (occurs_plug way old j) ∙ ap (occurs j) (sym old_nodes_of) ∙ ap (in_tree j) (sym (held_is k join e s rs st root far))
 
     few : heads k (unplaced (plug way old)) ≤ 1
-    few = subst (λ p. heads k (unplaced p) ≤ 1) old_nodes_of (heads_few k rs _ st.valid (held_tree k join e s rs st far))
+    few = subst (λ p. heads k (unplaced p) ≤ 1) old_nodes_of (heads_few k rs _ st.valid (held_tree k join e s rs st root far))
 
     one_here : one k r.code ≡ 1
     one_here = subst (λ c. one k c ≡ 1) is (one_same k)
@@ -128,7 +129,7 @@ module _ {K : Type 0} (join : K → K → K) (e : K) (k : ℕ) (v : K) where
         ap (λ p. some (unplaced p)) new_nodes_of
         ∙ ap some (carry_plug k join v way old new refl (omega arith))
         ∙ ap (λ p. some (carry_tree (more join k v) (unplaced p))) (sym old_nodes_of)
-        ∙ ap (map_carry (more join k v)) (sym (held_tree k join e s rs st far))
+        ∙ ap (map_carry (more join k v)) (sym (held_tree k join e s rs st root far))
         ∙ sym (carried (more join k v) rs)
 
     long : length ts2 ≡ length ts
@@ -143,7 +144,7 @@ module _ {K : Type 0} (join : K → K → K) (e : K) (k : ℕ) (v : K) where
       placed = some after;
       tree = tree';
       lies = record { kept = kept'; right = right'; totals = subst (Totals join e ts2) (sym new_nodes_of) climbed_up.totals };
-      top = st.top ∙ ap root_of (held_is k join e s rs st far) ∙ ap place_of old_nodes_of ∙ place_of_plug way old new refl ∙ sym (ap place_of new_nodes_of);
+      top = st.top ∙ ap root_of (held_is k join e s rs st root far) ∙ ap Some (ap place_of old_nodes_of ∙ place_of_plug way old new refl ∙ sym (ap place_of new_nodes_of));
       spare = st.spare;
       free = st.free;
       each = λ j h. let p = same_places j in let q = st.each j h in omega arith;
@@ -161,11 +162,11 @@ module _ {K : Type 0} (join : K → K → K) (e : K) (k : ℕ) (v : K) where
   pub keeps_absent : (s : State K) → Lacks join e s k → Keeps join e s s (repeats k v) (Err Absent)
   keeps_absent s gone cs st = absent s cs st (gone cs st)
 
-  module _ (s : State K) (cs : List (Call K)) (st : Stands join e s (roll join s.places cs)) (far : s.root ≢ 65535) (i : ℕ) where
+  module _ (s : State K) (cs : List (Call K)) (st : Stands join e s (roll join s.places cs)) (root : ℕ) (far : s.root ≡ Some root) (i : ℕ) where
     abbrev rs : List (Reading K)
     rs = roll join s.places cs
 
-    joined_by : (c : Content K) (path : List (PairFrame K)) (C : Box) (q : Record) → put_in_all path (placed_leaf i C c) ≡ held k join e s rs st far → q ≡ record_of (above (node_frames path)) (leaf_at i C c)
+    joined_by : (c : Content K) (path : List (PairFrame K)) (C : Box) (q : Record) → put_in_all path (placed_leaf i C c) ≡ held k join e s rs st root far → q ≡ record_of (above (node_frames path)) (leaf_at i C c)
         → of_code k c ≡ lookup k rs → is_reading q.kind ≡ true → q.rank.code ≡ k → (m : ℕ) → m ≡ s.live
         → Serves join e s (state s.records (climbed join e s.records s.places q.parent (set s.tallies i (join (get_or s.tallies i e) v))) s.places s.root s.live s.free) (repeats k v) cs (Ok m)
     joined_by (box I) path C q whole is tells kind code m live = absurd (mathlib.Core.Bool.false≢true (sym (ap (λ (x : Record). is_reading x.kind) is) ∙ kind))
@@ -178,11 +179,11 @@ module _ {K : Type 0} (join : K → K → K) (e : K) (k : ℕ) (v : K) where
         subst (λ (p : ℕ). Serves join e s (state s.records (climbed join e s.records s.places p ts1) s.places s.root s.live s.free) (repeats k v) cs (Ok m)) (sym up)
         record {
           stands = subst (λ b. Stands join e (state s.records (climbed join e s.records s.places (above (node_frames path)) ts1) s.places s.root s.live s.free) (cond b (carry_all (more join k v) rs) rs)) (sym there)
-              (stands_after s rs st far i path C r whole same);
+              (stands_after s rs st root far i path C r whole same);
           answer = ap Ok (live ∙ st.count) ∙ ap (λ b. cond b (Ok (length rs)) (Err Absent)) (sym there);
           places = refl;
           records_past = λ j d h. refl;
-          tallies_past = past_after s rs st far i path C r whole same;
+          tallies_past = past_after s rs st root far i path C r whole same;
           unchanged = λ h. absurd (mathlib.Core.Bool.false≢true h);
         }
 
@@ -190,11 +191,11 @@ module _ {K : Type 0} (join : K → K → K) (e : K) (k : ℕ) (v : K) where
       → s' ≡ state s.records (climbed join e s.records s.places q.parent (set s.tallies i (join (get_or s.tallies i e) v))) s.places s.root s.live s.free
       → Keeps join e s s' (repeats k v) (Ok m)
   keeps_joined s i q l m live s' new cs st =
-      let f = found k join e s _ st l.held i l.leads in
+      let f = found k join e s _ st l.root l.held i l.leads in
       subst (λ (u : State K). Serves join e s u (repeats k v) cs (Ok m)) (sym new)
-      (joined_by s cs st l.held i f.content f.path f.box q f.whole (l.lies ∙ f.lies) f.tells l.kind l.code m live)
+      (joined_by s cs st l.root l.held i f.content f.path f.box q f.whole (l.lies ∙ f.lies) f.tells l.kind l.code m live)
 
-pub same_state : {K : Type 0} (r r' : List Record) (t t' : List K) (a a' b b' c c' : ℕ) (f f' : FreePlaces) → r ≡ r' → t ≡ t' → a ≡ a' → b ≡ b' → c ≡ c' → f ≡ f' → state r t a b c f ≡ state r' t' a' b' c' f'
+pub same_state : {K : Type 0} (r r' : List Record) (t t' : List K) (a a' : ℕ) (b b' : Maybe ℕ) (c c' : ℕ) (f f' : FreePlaces) → r ≡ r' → t ≡ t' → a ≡ a' → b ≡ b' → c ≡ c' → f ≡ f' → state r t a b c f ≡ state r' t' a' b' c' f'
 same_state r r' t t' a a' b b' c c' f f' er et ea eb ec ef =
     ap (λ x. state x t a b c f) er ∙ ap (λ x. state r' x a b c f) et ∙ ap (λ x. state r' t' x b c f) ea ∙ ap (λ x. state r' t' a' x c f) eb
     ∙ ap (λ x. state r' t' a' b' x f) ec ∙ ap (λ x. state r' t' a' b' c' x) ef

@@ -1,5 +1,6 @@
 -- Entering: what each of its ways serves.
-use Rattle.std.proofs.Common.{◌≡◌, ℕ, suc, ◌+◌, ◌/◌, ◌^◌, ◌<◌, Bool, true, false, cond, ◌&&◌, eqb, leb, ◌≢◌, List, [], length, set, Ok, Err, sym, refl, ap, ◌∙◌, subst, arith, get_or-set_other}
+use Rattle.std.proofs.Common.{◌≡◌, ℕ, suc, ◌+◌, ◌/◌, ◌^◌, ◌<◌, Bool, true, false, cond, ◌&&◌, eqb, leb, List, [], length, set, Ok, Err, sym, refl, ap, ◌∙◌, subst, arith, get_or-set_other}
+use Rattle.std.specs.Prelude.{None, Some}
 use mathlib.Core.Option.{none, some}
 use Rattle.std.proofs.lemmas.Bool.{eq-eqb, eqb-true, leb-false, and_parts}
 use Rattle.records.specs.declared.record.Record.{Record}
@@ -26,12 +27,12 @@ module _ {K : Type 0} (join : K → K → K) (e : K) where
   -- the state in parts, each as the calls on the way answered it
   pub grown_by : (s : State K) (i k priority : ℕ) (v : K) (recs : List Record) (ts : List K) (top : ℕ) (taken : FourPlaces × FreePlaces)
       → tables recs ts top ≡ grown_tables join e s.places s.records s.tallies i k priority v taken.0 → taken ≡ (four_taken s.records s.free, four_left s.records s.free)
-      → state recs ts s.places top (s.live + 1) taken.1 ≡ grown join e s i k priority v
+      → state recs ts s.places (Some top) (s.live + 1) taken.1 ≡ grown join e s i k priority v
   grown_by s i k priority v recs ts top taken run four =
       let all : tables recs ts top ≡ grown_tables join e s.places s.records s.tallies i k priority v (four_taken s.records s.free) =
       run ∙ ap (λ (x : FourPlaces × FreePlaces). grown_tables join e s.places s.records s.tallies i k priority v x.0) four in
-      ap (λ (t : Tables K). state t.records t.tallies s.places t.top (s.live + 1) taken.1) all
-      ∙ ap (λ (x : FourPlaces × FreePlaces). let t : Tables K = grown_tables join e s.places s.records s.tallies i k priority v (four_taken s.records s.free) in state t.records t.tallies s.places t.top (s.live + 1) x.1) four
+      ap (λ (t : Tables K). state t.records t.tallies s.places (Some t.top) (s.live + 1) taken.1) all
+      ∙ ap (λ (x : FourPlaces × FreePlaces). let t : Tables K = grown_tables join e s.places s.records s.tallies i k priority v (four_taken s.records s.free) in state t.records t.tallies s.places (Some t.top) (s.live + 1) x.1) four
 
   -- a call that is refused
   pub refused : (s : State K) (cs : List (Call K)) (c : Call K) (r : Reply) → Stands join e s (roll join s.places cs)
@@ -78,11 +79,11 @@ module _ {K : Type 0} (join : K → K → K) (e : K) where
     accepted_reply N rs gone room =
         ap (λ b. cond b (Err Taken) (cond (full N rs) (Err Full) (Ok (suc (length rs))))) gone ∙ ap (λ b. cond b (Err Full) (Ok (suc (length rs)))) room
 
-    pub keeps_full_empty : (s : State K) → s.root ≡ 65535 → leb ((s.places + 3) / 4) s.live ≡ true → Keeps join e s s call (Err Full)
+    pub keeps_full_empty : (s : State K) → s.root ≡ None → leb ((s.places + 3) / 4) s.live ≡ true → Keeps join e s s call (Err Full)
     keeps_full_empty s is all cs st =
         serves_full s cs st (ap is_some (none_found k join e s _ st is)) (full_is s _ true st all)
 
-    pub keeps_first : (s : State K) → s.root ≡ 65535 → leb ((s.places + 3) / 4) s.live ≡ false → k < 2 ^ 32 → Keeps join e s (started s k priority v) call (Ok 1)
+    pub keeps_first : (s : State K) → s.root ≡ None → leb ((s.places + 3) / 4) s.live ≡ false → k < 2 ^ 32 → Keeps join e s (started s k priority v) call (Ok 1)
     keeps_first s is room small cs st =
         let rs : List (Reading K) = roll join s.places cs in
         let some_room : 0 < s.places = omega (arith, leb-false ((s.places + 3) / 4) s.live room) in
@@ -107,33 +108,33 @@ module _ {K : Type 0} (join : K → K → K) (e : K) where
         ap (λ b. is_some (cond b (some r) none)) (eq-eqb k r.code (sym code ∙ ap (λ (x : Record). x.rank.code) is))
     own_content (box I) p i C q is kind code = absurd (mathlib.Core.Bool.false≢true (sym (ap (λ (x : Record). is_reading x.kind) is) ∙ kind))
 
-    module _ (s : State K) (i : ℕ) (q : Record) (far : s.root ≢ 65535) (down : Descends K s.records s.root k s.places i) (is : q ≡ at s.records i) where
+    module _ (s : State K) (i : ℕ) (q : Record) (root : ℕ) (far : s.root ≡ Some root) (down : Descends K s.records root k s.places i) (is : q ≡ at s.records i) where
       pub keeps_taken : (is_reading q.kind && eqb q.rank.code k) ≡ true → Keeps join e s s call (Err Taken)
       keeps_taken own cs st =
-          let f = found k join e s _ st far i down in
+          let f = found k join e s _ st root far i down in
           let parts = and_parts (is_reading q.kind) (eqb q.rank.code k) own in
           serves_taken s cs st
           (ap is_some (sym f.tells) ∙ own_content f.content _ i f.box q (is ∙ f.lies) parts.0 (eqb-true q.rank.code k parts.1))
 
       pub keeps_full : (is_reading q.kind && eqb q.rank.code k) ≡ false → leb ((s.places + 3) / 4) s.live ≡ true → Keeps join e s s call (Err Full)
-      keeps_full other all cs st = serves_full s cs st (ap is_some (lacks_other join e s k i q far down is other cs st)) (full_is s _ true st all)
+      keeps_full other all cs st = serves_full s cs st (ap is_some (lacks_other join e s k root i q far down is other cs st)) (full_is s _ true st all)
 
       pub keeps_entered : (is_reading q.kind && eqb q.rank.code k) ≡ false → leb ((s.places + 3) / 4) s.live ≡ false → k < 2 ^ 32
           → (m : ℕ) → m ≡ s.live + 1 → (s' : State K) → s' ≡ grown join e s i k priority v → Keeps join e s s' call (Ok m)
       keeps_entered other open' small m live s' new cs st =
           let rs : List (Reading K) = roll join s.places cs in
-          let gone : lookup k rs ≡ none = lacks_other join e s k i q far down is other cs st in
+          let gone : lookup k rs ≡ none = lacks_other join e s k root i q far down is other cs st in
           let few : length rs < (s.places + 3) / 4 = let c = st.count in omega (arith, leb-false ((s.places + 3) / 4) s.live open') in
           let still : full s.places rs ≡ false = full_is s rs false st open' in
           subst (λ (u : State K). Serves join e s u call cs (Ok m)) (sym new)
           record {
             stands =
                 subst (Stands join e (grown join e s i k priority v)) (sym (accepted_roll s.places rs (ap is_some gone) still))
-                (stands_entered join e k priority v s rs st far i down gone small few);
+                (stands_entered join e k priority v s rs st root far i down gone small few);
             answer = ap Ok (live ∙ (let c = st.count in let z : s.live + 1 ≡ suc (length rs) = omega arith in z)) ∙ sym (accepted_reply s.places rs (ap is_some gone) still);
             places = refl;
-            records_past = records_past join e k priority v s rs st far i down gone small few;
-            tallies_past = tallies_past join e k priority v s rs st far i down gone small few;
+            records_past = records_past join e k priority v s rs st root far i down gone small few;
+            tallies_past = tallies_past join e k priority v s rs st root far i down gone small few;
             unchanged = λ h. absurd (mathlib.Core.Bool.false≢true h);
           }
 

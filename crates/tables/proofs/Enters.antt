@@ -1,5 +1,6 @@
 -- A reading that comes to a map that has one: what the map holds then.
-use Rattle.std.proofs.Common.{◌≡◌, ℕ, suc, ◌+◌, ◌*◌, ◌/◌, ◌^◌, ◌<◌, ◌≤◌, min, true, false, cond, ◌≢◌, List, [], ◌∷◌, length, get_or, sym, refl, ap, ◌∙◌, subst, arith}
+use Rattle.std.proofs.Common.{◌≡◌, ℕ, suc, ◌+◌, ◌*◌, ◌/◌, ◌^◌, ◌<◌, ◌≤◌, min, true, false, cond, List, [], ◌∷◌, length, get_or, sym, refl, ap, ◌∙◌, subst, arith}
+use Rattle.std.specs.Prelude.{Some}
 use mathlib.Core.Option.{Option, none, some}
 use Rattle.records.specs.declared.record.Record.{Record}
 use Rattle.records.specs.declared.places.FourPlaces.{FourPlaces}
@@ -55,8 +56,8 @@ path_short (on_left_at s w r C i E R O ∷ gs) = let h = path_short gs in omega 
 path_short (on_right_at s w r C i E L O ∷ gs) = let h = path_short gs in omega arith
 path_short (on_outer_at s w r C i E L R ∷ gs) = let h = path_short gs in omega arith
 
-module _ {K : Type 0} (join : K → K → K) (e : K) (k priority : ℕ) (v : K) (s : State K) (rs : List (Reading K)) (st : Stands join e s rs) (far : s.root ≢ 65535)
-    (i : ℕ) (down : Descends K s.records s.root k s.places i) (gone : lookup k rs ≡ none) (small : k < 2 ^ 32) (room : length rs < (s.places + 3) / 4) where
+module _ {K : Type 0} (join : K → K → K) (e : K) (k priority : ℕ) (v : K) (s : State K) (rs : List (Reading K)) (st : Stands join e s rs) (root : ℕ) (far : s.root ≡ Some root)
+    (i : ℕ) (down : Descends K s.records root k s.places i) (gone : lookup k rs ≡ none) (small : k < 2 ^ 32) (room : length rs < (s.places + 3) / 4) where
   abbrev p : Reading K
   p = reads k priority v
 
@@ -64,13 +65,13 @@ module _ {K : Type 0} (join : K → K → K) (e : K) (k priority : ℕ) (v : K) 
   N = s.places
 
   abbrev t : PlacedPairs K
-  t = held k join e s rs st far
+  t = held k join e s rs st root far
 
   lain : LiesTallied join e s.records s.tallies t
-  lain = held_lain k join e s rs st far
+  lain = held_lain k join e s rs st root far
 
   abbrev way : Reaches t k i
-  way = down t (held_lain k join e s rs st far).kept (held_top k join e s rs st far) (held_few k join e s rs st far)
+  way = down t (held_lain k join e s rs st root far).kept (held_top k join e s rs st root far) (held_few k join e s rs st root far)
 
   abbrev f : List (NodeFrame K)
   f = node_frames way.path
@@ -84,14 +85,14 @@ module _ {K : Type 0} (join : K → K → K) (e : K) (k priority : ℕ) (v : K) 
   other : of_code k way.content ≡ none
   other =
       ap (of_code k) (sym (content_at_lem k way.path (placed_leaf i way.box way.content) way.leads) ∙ ap (λ u. content_at (tree_in u) k) way.whole)
-      ∙ ap (λ u. map_find u k) (sym (held_tree k join e s rs st far)) ∙ finds k rs st.valid ∙ gone
+      ∙ ap (λ u. map_find u k) (sym (held_tree k join e s rs st root far)) ∙ finds k rs st.valid ∙ gone
 
   -- the free places
   few : nodes (tree_in t) + 3 ≡ 4 * length rs
-  few = subst (Counted (length rs)) (held_tree k join e s rs st far) (counted rs)
+  few = subst (Counted (length rs)) (held_tree k join e s rs st root far) (counted rs)
 
   same_nodes : map_nodes (tree_of rs) ≡ nodes (tree_in t)
-  same_nodes = ap map_nodes (held_tree k join e s rs st far)
+  same_nodes = ap map_nodes (held_tree k join e s rs st root far)
 
   left_over_lem : 4 + s.free.fresh ≤ N + length st.spare
   left_over_lem = let a = few in let b = same_nodes in let c = st.used in omega arith
@@ -106,7 +107,7 @@ module _ {K : Type 0} (join : K → K → K) (e : K) (k priority : ℕ) (v : K) 
   off j h = let a = free_past _ _ _ _ st.free j h in let b = free_past _ _ _ _ taken.free j h in let c = taken.places j in omega arith
 
   in_whole : (j : ℕ) → in_tree j st.placed ≡ one j i + occurs_around j f
-  in_whole j = ap (in_tree j) (held_is k join e s rs st far) ∙ ap (occurs j) whole_nodes_of ∙ occurs_plug f (leaf_at i way.box way.content) j
+  in_whole j = ap (in_tree j) (held_is k join e s rs st root far) ∙ ap (occurs j) whole_nodes_of ∙ occurs_plug f (leaf_at i way.box way.content) j
 
   once : (j : ℕ) → four j n + (one j i + occurs_around j f) ≤ 1
   once j = let w = in_whole j in let a = place_once join e s rs st j in let b = taken.places j in omega arith
@@ -125,7 +126,7 @@ module _ {K : Type 0} (join : K → K → K) (e : K) (k priority : ℕ) (v : K) 
   }
 
   low : (Rattle.place.specs.Boxes.smallest (Rattle.quadtreap.specs.Tree.extent way.content) (Rattle.quadtreap.specs.Tree.point_of p)).depth < 32
-  low = parts_low rs st.valid way.path i way.box way.content (held_tree k join e s rs st far ∙ ap (λ u. some (tree_in u)) (sym way.whole)) p small other
+  low = parts_low rs st.valid way.path i way.box way.content (held_tree k join e s rs st root far ∙ ap (λ u. some (tree_in u)) (sym way.whole)) p small other
 
   old_totals : Totals join e s.tallies (leaf_at i way.box way.content) × Rattle.tables.proofs.Climbs.Beside join e s.tallies f
   old_totals = beside join e s.tallies f (leaf_at i way.box way.content) (subst (Totals join e s.tallies) whole_nodes_of lain.totals)
@@ -151,7 +152,7 @@ module _ {K : Type 0} (join : K → K → K) (e : K) (k priority : ℕ) (v : K) 
   short =
       let w = way_short join e f (leaf_at i way.box way.content) in
       let a : nodes (unplaced (plug f (leaf_at i way.box way.content))) ≡ nodes (tree_in t) = ap (λ q. nodes (unplaced q)) (sym whole_nodes_of) in
-      let b = held_few k join e s rs st far in
+      let b = held_few k join e s rs st root far in
       let c = path_short way.path in
       omega arith
 
@@ -173,7 +174,7 @@ module _ {K : Type 0} (join : K → K → K) (e : K) (k priority : ℕ) (v : K) 
 
   tree : some (tree_in entered) ≡ tree_of (put p rs)
   tree =
-      ap some (enters t p i n way lain.right) ∙ ap (λ o. map_enter o p) (sym (held_tree k join e s rs st far))
+      ap some (enters t p i n way lain.right) ∙ ap (λ o. map_enter o p) (sym (held_tree k join e s rs st root far))
       ∙ enter_gives_tree p rs (valid_more k priority v rs small st.valid gone) st.ranked
 
   records_same : Elsewhere (λ j. four j n + (one j i + occurs_around j f)) s.records end.records
@@ -183,7 +184,7 @@ module _ {K : Type 0} (join : K → K → K) (e : K) (k priority : ℕ) (v : K) 
   tallies_same = onward join e _ _ _ s.tallies ts1 end.tallies (λ j z. omega arith) (λ j z. let b = sowed_places j in omega arith) sow.beyond rise.beyond
 
   abbrev pub after : State K
-  after = state end.records end.tallies N end.top (s.live + 1) (four_left s.records s.free)
+  after = state end.records end.tallies N (Some end.top) (s.live + 1) (four_left s.records s.free)
 
   pub stands_entered : Stands join e after (put p rs)
   stands_entered =
@@ -197,7 +198,7 @@ module _ {K : Type 0} (join : K → K → K) (e : K) (k priority : ℕ) (v : K) 
         placed = some entered;
         tree = tree;
         lies = record { kept = rise.kept; right = enters_ranks t p i n way lain.right; totals = rise.totals };
-        top = rise.top;
+        top = ap Some rise.top;
         spare = taken.left;
         free = free_on _ N s.records end.records records_same _ taken.left (λ j. let w = in_whole j in let a = place_once join e s rs st j in let b = taken.places j in omega arith) taken.free;
         each = λ j l. let a = st.each j l in let b = taken.places j in let c = all_places j in omega arith;

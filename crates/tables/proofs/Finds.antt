@@ -1,7 +1,10 @@
 -- The leaf to which a code leads, and what it tells of the live readings.
 use Rattle.std.proofs.Common.{◌≡◌, ℕ, ◌≤◌, Bool, true, false, cond, not, ◌&&◌, eqb, ◌≢◌, ◌⊎◌, List, [], ◌∷◌, sym, refl, ap, ◌∙◌, subst, inl, inr, arith}
 use mathlib.Core.Option.{Option, none, some}
-use Rattle.std.proofs.lemmas.Bool.{and_parts, and_cases, ne_eqb, eqb-false}
+use Rattle.std.proofs.lemmas.Option.{none-some}
+use Rattle.std.specs.Option.{unwrap_or}
+use Rattle.std.specs.Prelude.{Option as Maybe, Some, None}
+use Rattle.std.proofs.lemmas.Bool.{and_parts, and_cases, ne_eqb, eqb-true, eqb-false}
 use Rattle.records.specs.declared.record.Record.{Record}
 use Rattle.place.specs.Boxes.{Box, holds}
 use Rattle.quadtreap.specs.Tree.{Reading, Content, reading, box, outer, tree_of, nodes, map_nodes}
@@ -12,10 +15,9 @@ use Rattle.records.specs.PlacedNodes.{leaf_at, record_of, above, LiesIn}
 use Rattle.records.specs.Writes.{at}
 use Rattle.records.specs.PlacedPairs.{PlacedPairs, placed_leaf, placed_pair, nodes_of, tree_in, top_place, PairFrame, on_left_at, on_right_at, on_outer_at, put_in_all, frames, node_frames}
 use Rattle.records.specs.Promises.{Descends}
-use Rattle.tables.specs.Finds.{Lacks}
+use Rattle.tables.specs.Finds.{LeafOf, Lacks}
 use Rattle.tables.specs.Stands.{State, Stands, LiesTallied, Lies, map_tree, root_of}
 use Rattle.quadtreap.proofs.FindLaws.{finds}
-use Rattle.records.proofs.FrameLaws.{root_occurs}
 use Rattle.records.proofs.PairLaws.{lies_among}
 
 chosen : {X : Type 0} (b : Bool) (x y z : X) → b ≡ true → x ≡ z → cond b x y ≡ z
@@ -25,6 +27,10 @@ chosen false x y z h e = absurd (mathlib.Core.Bool.false≢true h)
 passed : {X : Type 0} (b : Bool) (x y z : X) → not b ≡ true → y ≡ z → cond b x y ≡ z
 passed true x y z h e = absurd (mathlib.Core.Bool.false≢true h)
 passed false x y z h e = e
+
+pub none_or_some : {X : Type 0} (o : Maybe X) → (o ≡ None) ⊎ ((x : X) × (o ≡ Some x))
+none_or_some None = inl refl
+none_or_some (Some x) = inr (x, refl)
 
 module _ {K : Type 0} (k : ℕ) where
   pub content_at_lem : (gs : List (PairFrame K)) (t : PlacedPairs K) → leads_all (frames gs) (tree_in t) k ≡ true → content_at (tree_in (put_in_all gs t)) k ≡ content_at (tree_in t) k
@@ -41,16 +47,13 @@ module _ {K : Type 0} (k : ℕ) where
       let h = and_parts (not (holds E k)) _ led in
       content_at_lem gs (placed_pair s w r C i E L R t) h.1 ∙ passed (holds E k) _ _ _ h.0 refl
 
-  pub whole_of : (root : ℕ) (o : Option (PlacedPairs K)) → root ≡ root_of o → root ≢ 65535 → (t : PlacedPairs K) × (o ≡ some t)
-  whole_of root none top far = absurd (far top)
-  whole_of root (some t) top far = (t, refl)
+  pub whole_of : (root : ℕ) (o : Option (PlacedPairs K)) → root_of o ≡ Some root → (t : PlacedPairs K) × (o ≡ some t)
+  whole_of root none top = absurd (none-some root top)
+  whole_of root (some t) top = (t, refl)
 
-  pub none_of : (join : K → K → K) (e : K) (recs : List Record) (ts : List K) (root : ℕ) (o : Option (PlacedPairs K)) → Lies join e recs ts o → root ≡ root_of o → root ≡ 65535 → o ≡ none
-  none_of join e recs ts root none lies top is = refl
-  none_of join e recs ts root (some t) lies top is =
-      let o = root_occurs (nodes_of t) in
-      let z = lies.kept.low (top_place t) (omega arith) in
-      absurd (omega arith)
+  pub none_of : (o : Option (PlacedPairs K)) → root_of o ≡ None → o ≡ none
+  none_of none top = refl
+  none_of (some t) top = absurd (none-some (top_place t) (sym top))
 
   -- the leaf at i, in its rings
   pub record Found (s : State K) (rs : List (Reading K)) (t : PlacedPairs K) (i : ℕ) : Type 0 where
@@ -63,17 +66,17 @@ module _ {K : Type 0} (k : ℕ) where
 
   module _ (join : K → K → K) (e : K) (s : State K) (rs : List (Reading K)) (st : Stands join e s rs) where
     -- an empty map
-    pub none_found : s.root ≡ 65535 → lookup k rs ≡ none
+    pub none_found : s.root ≡ None → lookup k rs ≡ none
     none_found is =
-        let o = none_of join e s.records s.tallies s.root st.placed st.lies st.top is in
+        let o = none_of st.placed (sym st.top ∙ is) in
         sym (finds k rs st.valid) ∙ ap (λ u. map_find u k) (sym st.tree ∙ ap map_tree o)
 
-    module _ (far : s.root ≢ 65535) where
+    module _ (root : ℕ) (far : s.root ≡ Some root) where
       abbrev pub held : PlacedPairs K
-      held = (whole_of s.root st.placed st.top far).0
+      held = (whole_of root st.placed (sym st.top ∙ far)).0
 
       pub held_is : st.placed ≡ some held
-      held_is = (whole_of s.root st.placed st.top far).1
+      held_is = (whole_of root st.placed (sym st.top ∙ far)).1
 
       pub held_tree : tree_of rs ≡ some (tree_in held)
       held_tree = sym st.tree ∙ ap map_tree held_is
@@ -81,8 +84,8 @@ module _ {K : Type 0} (k : ℕ) where
       pub held_lain : LiesTallied join e s.records s.tallies held
       held_lain = subst (λ o. Lies join e s.records s.tallies o) held_is st.lies
 
-      pub held_top : s.root ≡ top_place held
-      held_top = st.top ∙ ap root_of held_is
+      pub held_top : root ≡ top_place held
+      held_top = ap (λ o. unwrap_or o 0) (sym far ∙ st.top ∙ ap root_of held_is)
 
       pub held_few : nodes (tree_in held) ≤ s.places
       held_few =
@@ -91,7 +94,7 @@ module _ {K : Type 0} (k : ℕ) where
           let f = st.free.fits in
           omega arith
 
-      pub found : (i : ℕ) → Descends K s.records s.root k s.places i → Found s rs held i
+      pub found : (i : ℕ) → Descends K s.records root k s.places i → Found s rs held i
       found i down =
           let way = down held held_lain.kept held_top held_few in
           let kept : LiesIn s.records (nodes_of (put_in_all way.path (placed_leaf i way.box way.content))) = subst (λ u. LiesIn s.records (nodes_of u)) (sym way.whole) held_lain.kept in
@@ -119,10 +122,15 @@ other_leaf k q h =
     elim (and_cases (is_reading q.kind) (eqb q.rank.code k) h) [ inl a ↦ inl a | inr b ↦ inr (eqb-false q.rank.code k b) ]
 
 module _ {K : Type 0} (join : K → K → K) (e : K) (s : State K) (k : ℕ) where
-  pub lacks_empty : s.root ≡ 65535 → Lacks join e s k
+  pub lacks_empty : s.root ≡ None → Lacks join e s k
   lacks_empty is cs st = none_found k join e s _ st is
 
-  pub lacks_other : (i : ℕ) (q : Record) → s.root ≢ 65535 → Descends K s.records s.root k s.places i → q ≡ at s.records i → (is_reading q.kind && eqb q.rank.code k) ≡ false → Lacks join e s k
-  lacks_other i q far down is other cs st =
-      let f = found k join e s _ st far i down in
+  pub lacks_other : (root i : ℕ) (q : Record) → s.root ≡ Some root → Descends K s.records root k s.places i → q ≡ at s.records i → (is_reading q.kind && eqb q.rank.code k) ≡ false → Lacks join e s k
+  lacks_other root i q far down is other cs st =
+      let f = found k join e s _ st root far i down in
       sym f.tells ∙ other_content k f.content _ i f.box q (is ∙ f.lies) (other_leaf k q other)
+
+pub leaf_of : {K : Type 0} (s : State K) (k root i : ℕ) (q : Record) → s.root ≡ Some root → Descends K s.records root k s.places i → q ≡ at s.records i → (is_reading q.kind && eqb q.rank.code k) ≡ true → LeafOf s k i q
+leaf_of s k root i q far down is own =
+    let parts = and_parts (is_reading q.kind) (eqb q.rank.code k) own in
+    record { root = root; held = far; leads = down; lies = is; kind = parts.0; code = eqb-true q.rank.code k parts.1 }

@@ -1,5 +1,6 @@
 -- The first reading of a map.
 use Rattle.std.proofs.Common.{◌≡◌, ℕ, ◌^◌, ◌<◌, min, List, [], ◌∷◌, length, sym, refl, ap, ◌∙◌, arith, length-set}
+use Rattle.std.specs.Prelude.{None}
 use mathlib.Core.Option.{none, some}
 use Rattle.records.specs.declared.record.Record.{Record}
 use Rattle.place.specs.Boxes.{whole}
@@ -21,12 +22,12 @@ empty_list : {K : Type 0} (rs : List (Reading K)) → tree_of rs ≡ none → rs
 empty_list [] h = refl
 empty_list (r ∷ rs) h = absurd (mathlib.Core.Bool.true≢false (ap is_some h))
 
-module _ {K : Type 0} (join : K → K → K) (e : K) (k priority : ℕ) (v : K) (s : State K) (rs : List (Reading K)) (st : Stands join e s rs) (empty : s.root ≡ 65535) (small : k < 2 ^ 32) (room : 0 < s.places) where
+module _ {K : Type 0} (join : K → K → K) (e : K) (k priority : ℕ) (v : K) (s : State K) (rs : List (Reading K)) (st : Stands join e s rs) (empty : s.root ≡ None) (small : k < 2 ^ 32) (room : 0 < s.places) where
   abbrev p : Reading K
   p = reads k priority v
 
   no_nest : st.placed ≡ none
-  no_nest = none_of k join e s.records s.tallies s.root st.placed st.lies st.top empty
+  no_nest = none_of k st.placed (sym st.top ∙ empty)
 
   pub no_readings : rs ≡ []
   no_readings = empty_list rs (sym st.tree ∙ ap map_tree no_nest)

@@ -1,5 +1,6 @@
 -- An empty map stands.
 use Rattle.std.proofs.Common.{◌≡◌, ℕ, min, List, [], length, refl, arith}
+use Rattle.std.specs.Prelude.{None}
 use mathlib.Core.Option.{none}
 use Rattle.records.specs.declared.record.Record.{Record}
 use Rattle.records.specs.declared.places.FreePlaces.{FreePlaces}
@@ -7,7 +8,7 @@ use Rattle.records.specs.Free.{Opens}
 use Rattle.tables.specs.Stands.{state, Stands}
 
 pub opens : {K : Type 0} (join : K → K → K) (e : K) (recs : List Record) (ts : List K) (N : ℕ) (f : FreePlaces) → N ≡ min (min (length recs) (length ts)) 65533 → Opens f
-    → Stands join e (state recs ts N 65535 0 f) []
+    → Stands join e (state recs ts N None 0 f) []
 opens join e recs ts N f is none_used =
     let all = none_used N recs (omega arith) (omega arith) in
     record {

@@ -1,5 +1,7 @@
 -- The call strike: what it promises, from what it reads and writes.
 use Rattle.std.proofs.Common.{◌≡◌, ℕ, ◌-◌, Bool, true, false, cond, ◌≢◌, List, [], ◌∷◌, length, Ok, Err, sym, refl, ap, ◌∙◌, subst, arith}
+use Rattle.std.specs.Option.{unwrap_or}
+use Rattle.std.specs.Prelude.{Some}
 use mathlib.Core.Option.{none, some}
 use Rattle.std.proofs.lemmas.Bool.{eq-eqb, false≢true}
 use Rattle.records.specs.declared.record.Record.{Record}
@@ -90,15 +92,18 @@ module _ {K : Type 0} (join : K → K → K) (e : K) (k : ℕ) where
   alone recs (on_outer_at s w r C i E L R ∷ gs) t h up = let o = one_same s in let z = h.low s (omega arith) in absurd (omega arith)
 
   module _ (s : State K) (i₀ : ℕ) (q : Record) (l : LeafOf s k i₀ q) where
-    far : s.root ≢ 65535
+    abbrev root : ℕ
+    root = l.root
+
+    far : s.root ≡ Some root
     far = l.held
 
     module _ (cs : List (Call K)) (st : Stands join e s (roll join s.places cs)) where
       abbrev rs : List (Reading K)
       rs = roll join s.places cs
 
-      f : Found k s rs (held k join e s rs st far) i₀
-      f = found k join e s rs st far i₀ l.leads
+      f : Found k s rs (held k join e s rs st root far) i₀
+      f = found k join e s rs st root far i₀ l.leads
 
       this : (r : Reading K) × (f.content ≡ reading r) × (k ≡ r.code)
       this = this_content f.content _ i₀ f.box q (l.lies ∙ f.lies) l.kind l.code
@@ -113,9 +118,9 @@ module _ {K : Type 0} (join : K → K → K) (e : K) (k : ℕ) where
       told : (m : ℕ) → m ≡ length (without k rs) → Ok m ≡ cond (present k rs) (Ok (length (without k rs))) (Err Absent)
       told m is' = ap Ok is' ∙ ap (λ b. cond b (Ok (length (without k rs))) (Err Absent)) (sym here)
 
-      only_leaf : q.parent ≡ 65535 → placed_leaf i₀ f.box (reading this.0) ≡ held k join e s rs st far
+      only_leaf : q.parent ≡ 65535 → placed_leaf i₀ f.box (reading this.0) ≡ held k join e s rs st root far
       only_leaf up =
-          let kept : LiesIn s.records (nodes_of (put_in_all f.path (placed_leaf i₀ f.box f.content))) = subst (λ u. LiesIn s.records (nodes_of u)) (sym f.whole) (held_lain k join e s rs st far).kept in
+          let kept : LiesIn s.records (nodes_of (put_in_all f.path (placed_leaf i₀ f.box f.content))) = subst (λ u. LiesIn s.records (nodes_of u)) (sym f.whole) (held_lain k join e s rs st root far).kept in
           ap (placed_leaf i₀ f.box) (sym this.1)
           ∙ alone s.records f.path (placed_leaf i₀ f.box f.content) (lies_among s.records f.path (placed_leaf i₀ f.box f.content) kept) (sym parent ∙ up)
           ∙ f.whole
@@ -124,55 +129,60 @@ module _ {K : Type 0} (join : K → K → K) (e : K) (k : ℕ) where
       serves_last up m live =
           let lone = only_leaf up in
           record {
-            stands = stands_emptied_state join e k s rs st far i₀ f.box this.0 lone this.2;
-            answer = told m (live ∙ last_live join e k s rs st far i₀ f.box this.0 lone this.2);
+            stands = stands_emptied_state join e k s rs st root far i₀ f.box this.0 lone this.2;
+            answer = told m (live ∙ last_live join e k s rs st root far i₀ f.box this.0 lone this.2);
             places = refl;
-            records_past = emptied_state_past join e k s rs st far i₀ f.box this.0 lone this.2;
+            records_past = emptied_state_past join e k s rs st root far i₀ f.box this.0 lone this.2;
             tallies_past = λ j d h. refl;
             unchanged = λ h. absurd (false≢true h);
           }
 
-      several : q.parent ≢ 65535 → is_only (tree_in (held k join e s rs st far)) k ≡ false
+      several : q.parent ≢ 65535 → is_only (tree_in (held k join e s rs st root far)) k ≡ false
       several up = subst (λ u. is_only (tree_in u) k ≡ false) f.whole (not_only f.path (placed_leaf i₀ f.box f.content) (λ z. up (parent ∙ z)))
 
       module _ (up : q.parent ≢ 65535) where
         abbrev end : Sink
-        end = v join e k s rs st far here (several up)
+        end = v join e k s rs st root far here (several up)
 
-        end_is : struck_in s.places s.records s.root k ≡ end
-        end_is = ap (λ m. struck_in s.places s.records m k) (held_top k join e s rs st far)
+        end_is : struck_in s.places s.records root k ≡ end
+        end_is = ap (λ m. struck_in s.places s.records m k) (held_top k join e s rs st root far)
 
-        ends_done : (struck_in s.places s.records s.root k).ends ≡ Done (i join e k s rs st far here (several up)) (n join e k s rs st far here (several up))
-        ends_done = ap (λ (w : Sink). w.ends) end_is ∙ ends_is join e k s rs st far here (several up)
+        ends_done : (struck_in s.places s.records root k).ends ≡ Done (i join e k s rs st root far here (several up)) (n join e k s rs st root far here (several up))
+        ends_done = ap (λ (w : Sink). w.ends) end_is ∙ ends_is join e k s rs st root far here (several up)
 
-        serves_struck : (m : ℕ) → m ≡ s.live - 1 → Serves join e s (after join e k s rs st far here (several up)) (strikes k) cs (Ok m)
+        serves_struck : (m : ℕ) → m ≡ s.live - 1 → Serves join e s (after join e k s rs st root far here (several up)) (strikes k) cs (Ok m)
         serves_struck m live =
             record {
-              stands = stands_struck join e k s rs st far here (several up);
-              answer = told m (live ∙ struck_live join e k s rs st far here (several up));
+              stands = stands_struck join e k s rs st root far here (several up);
+              answer = told m (live ∙ struck_live join e k s rs st root far here (several up));
               places = refl;
-              records_past = records_past join e k s rs st far here (several up);
-              tallies_past = tallies_past join e k s rs st far here (several up);
+              records_past = records_past join e k s rs st root far here (several up);
+              tallies_past = tallies_past join e k s rs st root far here (several up);
               unchanged = λ h. absurd (false≢true h);
             }
 
-        after_is : (recs : List Record) (l : ℕ) (m : FourPlaces) → recs ≡ (struck_in s.places s.records s.root k).table → Done l m ≡ (struck_in s.places s.records s.root k).ends
-            → struck_state join e (state recs s.tallies s.places s.root s.live s.free) l m ≡ after join e k s rs st far here (several up)
+        after_is : (recs : List Record) (l : ℕ) (m : FourPlaces) → recs ≡ (struck_in s.places s.records root k).table → Done l m ≡ (struck_in s.places s.records root k).ends
+            → struck_state join e (state recs s.tallies s.places s.root s.live s.free) l m ≡ after join e k s rs st root far here (several up)
         after_is recs l m table ends =
             let told' = ends ∙ ends_done in
             let at_table : recs ≡ end.table = table ∙ ap (λ (w : Sink). w.table) end_is in
             ap (λ (w : List Record). struck_state join e (state w s.tallies s.places s.root s.live s.free) l m) at_table
             ∙ ap (λ (w : ℕ). struck_state join e (state end.table s.tallies s.places s.root s.live s.free) w m) (ap leaf_in told')
-            ∙ ap (struck_state join e (state end.table s.tallies s.places s.root s.live s.free) (i join e k s rs st far here (several up))) (ap (places_in m) told')
+            ∙ ap (struck_state join e (state end.table s.tallies s.places s.root s.live s.free) (i join e k s rs st root far here (several up))) (ap (places_in m) told')
+
+    same_root : (root' : ℕ) → s.root ≡ Some root' → root' ≡ root
+    same_root root' here = ap (λ o. unwrap_or o 0) (sym here ∙ far)
 
     pub keeps_last : q.parent ≡ 65535 → (m : ℕ) → m ≡ s.live - 1 → (s' : State K) → s' ≡ emptied_state s i₀ → Keeps join e s s' (strikes k) (Ok m)
     keeps_last up m live s' new cs st = subst (λ (u : State K). Serves join e s u (strikes k) cs (Ok m)) (sym new) (serves_last cs st up m live)
 
-    pub keeps_struck : q.parent ≢ 65535 → (recs : List Record) (l : ℕ) (p : FourPlaces) → recs ≡ (struck_in s.places s.records s.root k).table → Done l p ≡ (struck_in s.places s.records s.root k).ends
+    pub keeps_struck : q.parent ≢ 65535 → (root' : ℕ) → s.root ≡ Some root' → (recs : List Record) (l : ℕ) (p : FourPlaces) → recs ≡ (struck_in s.places s.records root' k).table → Done l p ≡ (struck_in s.places s.records root' k).ends
         → (m : ℕ) → m ≡ s.live - 1 → (s' : State K) → s' ≡ struck_state join e (state recs s.tallies s.places s.root s.live s.free) l p → Keeps join e s s' (strikes k) (Ok m)
-    keeps_struck up recs l p table ends m live s' new cs st =
-        subst (λ (u : State K). Serves join e s u (strikes k) cs (Ok m)) (sym (new ∙ after_is cs st up recs l p table ends)) (serves_struck cs st up m live)
+    keeps_struck up root' here' recs l p table ends m live s' new cs st =
+        let same = same_root root' here' in
+        subst (λ (u : State K). Serves join e s u (strikes k) cs (Ok m)) (sym (new ∙ after_is cs st up recs l p (table ∙ ap (λ (m : ℕ). (struck_in s.places s.records m k).table) same) (ends ∙ ap (λ (m : ℕ). (struck_in s.places s.records m k).ends) same))) (serves_struck cs st up m live)
 
     -- a live reading is never missed, so the other answers never come
-    pub keeps_never : q.parent ≢ 65535 → (r : Sinking) → r ≡ (struck_in s.places s.records s.root k).ends → is_done r ≡ false → (s' : State K) (a : Reply) → Keeps join e s s' (strikes k) a
-    keeps_never up r ends other s' a cs st = absurd (false≢true (sym other ∙ ap is_done (ends ∙ ends_done cs st up)))
+    pub keeps_never : q.parent ≢ 65535 → (root' : ℕ) → s.root ≡ Some root' → (r : Sinking) → r ≡ (struck_in s.places s.records root' k).ends → is_done r ≡ false → (s' : State K) (a : Reply) → Keeps join e s s' (strikes k) a
+    keeps_never up root' here' r ends other s' a cs st =
+        absurd (false≢true (sym other ∙ ap is_done (ends ∙ ap (λ (m : ℕ). (struck_in s.places s.records m k).ends) (same_root root' here') ∙ ends_done cs st up)))

@@ -1,5 +1,6 @@
 -- A reading that is struck: what the map holds then.
-use Rattle.std.proofs.Common.{◌≡◌, ℕ, ◌+◌, ◌-◌, ◌*◌, ◌<◌, ◌≤◌, min, true, false, cond, not, eqb, ◌≢◌, List, [], ◌∷◌, length, get_or, sym, refl, ap, ◌∙◌, subst, inl, inr, arith}
+use Rattle.std.proofs.Common.{◌≡◌, ℕ, ◌+◌, ◌-◌, ◌*◌, ◌<◌, ◌≤◌, min, true, false, cond, not, eqb, List, [], ◌∷◌, length, get_or, sym, refl, ap, ◌∙◌, subst, inl, inr, arith}
+use Rattle.std.specs.Prelude.{Some}
 use mathlib.Core.Option.{none, some}
 use Rattle.std.proofs.lemmas.Bool.{cases_lt, cases_Bool, eq-eqb, false≢true}
 use Rattle.std.proofs.lemmas.List.{get_or_default, get_or_past}
@@ -69,27 +70,27 @@ reads_any recs recs' i d long same =
       | inr l ↦ get_or_past recs' i d (omega arith) ∙ sym (get_or_past recs i d l)
     ]
 
-module _ {K : Type 0} (join : K → K → K) (e : K) (k : ℕ) (s : State K) (rs : List (Reading K)) (st : Stands join e s rs) (far : s.root ≢ 65535) where
+module _ {K : Type 0} (join : K → K → K) (e : K) (k : ℕ) (s : State K) (rs : List (Reading K)) (st : Stands join e s rs) (root : ℕ) (far : s.root ≡ Some root) where
   abbrev pub t : PlacedPairs K
-  t = held k join e s rs st far
+  t = held k join e s rs st root far
 
   abbrev N : ℕ
   N = s.places
 
   lain : LiesTallied join e s.records s.tallies t
-  lain = held_lain k join e s rs st far
+  lain = held_lain k join e s rs st root far
 
   few : nodes (tree_in t) ≤ N
-  few = held_few k join e s rs st far
+  few = held_few k join e s rs st root far
 
   tree_before : tree_of rs ≡ some (tree_in t)
-  tree_before = held_tree k join e s rs st far
+  tree_before = held_tree k join e s rs st root far
 
   nodes_before : 4 * length rs - 3 ≡ nodes (tree_in t)
   nodes_before = sym (node_count rs) ∙ ap map_nodes tree_before
 
   in_whole : (j : ℕ) → in_tree j st.placed ≡ occurs j (nodes_of t)
-  in_whole j = ap (in_tree j) (held_is k join e s rs st far)
+  in_whole j = ap (in_tree j) (held_is k join e s rs st root far)
 
   -- a node's place is not free, and is below N
   apart : (j : ℕ) → occurs j (nodes_of t) + free_at s.free st.spare j ≤ 1
@@ -283,7 +284,7 @@ module _ {K : Type 0} (join : K → K → K) (e : K) (k : ℕ) (s : State K) (rs
           placed = some u;
           tree = tree;
           lies = record { kept = kept2; right = final N t k lain.right (stays_paired.0 rs (tree_in t) tree_before).0 few; totals = subst (Totals join e ts2) (sym nodes_of_after) up.totals };
-          top = tops recs1 N way leaf' land.focus short ∙ ap place_of (sym nodes_of_after);
+          top = ap Some (tops recs1 N way leaf' land.focus short ∙ ap place_of (sym nodes_of_after));
           spare = n.shrink ∷ n.split ∷ n.reading ∷ n.outer ∷ st.spare;
           free = four_back.free;
           each = λ j h. let a = st.each j h in let b = in_whole j in let c = frees.places j in let d = four_back.places j in omega arith;

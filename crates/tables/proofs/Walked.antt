@@ -1,11 +1,10 @@
 -- The tally of a shape is what the tree of the live readings answers.
-use Rattle.std.proofs.Common.{◌≡◌, ℕ, ◌*◌, ◌≤◌, ◌≢◌, List, sym, refl, ap, ◌∙◌, subst, inl, inr, arith}
-use Rattle.std.proofs.lemmas.Bool.{cases_eq, ne_eqb}
+use Rattle.std.proofs.Common.{◌≡◌, ℕ, ◌*◌, ◌≤◌, List, sym, refl, ap, ◌∙◌, subst, inl, inr, arith}
+use Rattle.std.specs.Prelude.{None, Some}
 use Rattle.tables.specs.declared.walk.Tallied.{Tallied}
 use Rattle.crossing.specs.Regions.{Places, crossings}
 use Rattle.quadtreap.specs.Tree.{Reading, tree_of, nodes, map_height}
 use Rattle.quadtreap.specs.Walk.{Tests, asked, Joins, Answer, answer, map_walk, Subset}
-use Rattle.records.specs.PlacedNodes.{place_of}
 use Rattle.records.specs.PlacedPairs.{PlacedPairs, nodes_of, tree_in}
 use Rattle.tables.specs.Calls.{roll}
 use Rattle.tables.specs.Stands.{State, Stands, LiesTallied, map_tree}
@@ -14,7 +13,7 @@ use Rattle.tables.specs.Tallies.{Answers}
 use Rattle.quadtreap.proofs.WalkLaws.{same_tests, counts_each_once}
 use Rattle.quadtreap.proofs.EffortLaws.{effort_is_bounded}
 use Rattle.quadtreap.proofs.SameLaws.{same_readings}
-use Rattle.tables.proofs.Finds.{none_of, held, held_tree, held_lain, held_top, held_few}
+use Rattle.tables.proofs.Finds.{none_or_some, none_of, held, held_tree, held_lain, held_top, held_few}
 use Rattle.tables.proofs.Rolls.{ranked_roll}
 use Rattle.tables.proofs.Sights.{numbered_agree}
 use Rattle.tables.proofs.Runs.{stops}
@@ -29,25 +28,21 @@ module _ {K : Type 0} (join : K → K → K) (e : K) (laws : Joins join e) (s : 
   run q = ran join e q s.records s.tallies (s.places * 2) (starts s.root e)
 
   module _ (rs : List (Reading K)) (st : Stands join e s rs) (q : Tests) where
-    found_empty : s.root ≡ 65535 → found (run q) ≡ map_walk join e q (tree_of rs)
+    found_empty : s.root ≡ None → found (run q) ≡ map_walk join e q (tree_of rs)
     found_empty is =
-        rw (is, stops join e q s.records s.tallies (s.places * 2) (starts 65535 e) refl) (ap (map_walk join e q) (sym (ap map_tree (none_of 0 join e s.records s.tallies s.root st.placed st.lies st.top is)) ∙ st.tree))
+        rw (is, stops join e q s.records s.tallies (s.places * 2) (starts None e) refl) (ap (map_walk join e q) (sym (ap map_tree (none_of 0 st.placed (sym st.top ∙ is))) ∙ st.tree))
 
-    found_held : s.root ≢ 65535 → found (run q) ≡ map_walk join e q (tree_of rs)
-    found_held some =
-        let t : PlacedPairs K = held 0 join e s rs st some in
-        let lain : LiesTallied join e s.records s.tallies t = held_lain 0 join e s rs st some in
+    found_held : (root : ℕ) → s.root ≡ Some root → found (run q) ≡ map_walk join e q (tree_of rs)
+    found_held root far =
+        let t : PlacedPairs K = held 0 join e s rs st root far in
+        let lain : LiesTallied join e s.records s.tallies t = held_lain 0 join e s rs st root far in
         let laid : Laid join e q laws s.records s.tallies 65535 (nodes_of t) = record { laid = lain.kept.laid; totals = lain.totals; once = lain.kept.once; low = lain.kept.low } in
-        let few : 2 * nodes (tree_in t) ≤ s.places * 2 = (let f = held_few 0 join e s rs st some in omega arith) in
-        rw (
-          held_top 0 join e s rs st some,
-          ne_eqb (place_of (nodes_of t)) 65535 (far join e q laws s.records s.tallies 65535 (nodes_of t) laid),
-          whole_walk join e q laws s.records s.tallies (nodes_of t) (s.places * 2) laid few,
-        )
-        (ap (map_walk join e q) (sym (held_tree 0 join e s rs st some)))
+        let few : 2 * nodes (tree_in t) ≤ s.places * 2 = (let f = held_few 0 join e s rs st root far in omega arith) in
+        rw (far, held_top 0 join e s rs st root far, whole_walk join e q laws s.records s.tallies (nodes_of t) (s.places * 2) laid few)
+        (ap (map_walk join e q) (sym (held_tree 0 join e s rs st root far)))
 
     pub found_walk : found (run q) ≡ map_walk join e q (tree_of rs)
-    found_walk = elim (cases_eq s.root 65535) [ inl is ↦ found_empty is | inr some ↦ found_held some ]
+    found_walk = elim (none_or_some s.root) [ inl is ↦ found_empty is | inr far ↦ found_held far.0 far.1 ]
 
   module _ (inner outer : Places) (sub : Subset inner outer) where
     pub answers : (x : Tallied K) → x ≡ run (numbered inner outer) → Answers join e inner outer s (found x)

@@ -2,7 +2,7 @@
 --   root_above      the root, found by the parents
 --   struck_state    the map without one of several readings
 --   emptied_state   the map without its last reading
-use Rattle.std.specs.Prelude.{ℕ, zero, suc, ◌-◌, cond, List, ◌==◌}
+use Rattle.std.specs.Prelude.{ℕ, zero, suc, ◌-◌, cond, List, Some, None, ◌==◌}
 use Rattle.records.specs.declared.record.Record.{Record}
 use Rattle.records.specs.declared.places.FourPlaces.{FourPlaces}
 use Rattle.records.specs.Writes.{at}
@@ -19,8 +19,8 @@ root_above (suc n) recs i = cond ((at recs i).parent == 65535) i (root_above n r
 abbrev pub struck_state : {K : Type 0} → (K → K → K) → K → State K → ℕ → FourPlaces → State K
 struck_state join e s i n =
     state (four_linked s.records s.free n) (climbed join e s.records s.places (at s.records i).parent s.tallies) s.places
-    (root_above s.places s.records i) (s.live - 1) (four_given s.free n)
+    (Some (root_above s.places s.records i)) (s.live - 1) (four_given s.free n)
 
 -- The map after its last reading, at i, is gone.
 abbrev pub emptied_state : {K : Type 0} → State K → ℕ → State K
-emptied_state s i = state (linked s.records s.free i) s.tallies s.places 65535 (s.live - 1) (given_back s.free i)
+emptied_state s i = state (linked s.records s.free i) s.tallies s.places None (s.live - 1) (given_back s.free i)

@@ -6,7 +6,7 @@
 --   Serves, Keeps                what a call promises after some calls, and after any calls
 --   grown_tables                 both tables after a reading is entered
 --   started, grown               the map after its first reading, and after one more
-use Rattle.std.specs.Prelude.{◌≡◌, ℕ, ◌+◌, ◌<◌, ◌≤◌, min, Bool, true, false, List, ◌∷◌, length, Ok, Err, slice_index_or, slice_set}
+use Rattle.std.specs.Prelude.{◌≡◌, ℕ, ◌+◌, ◌<◌, ◌≤◌, min, Bool, true, false, List, ◌∷◌, length, Some, None, Option as Maybe, Ok, Err, slice_index_or, slice_set}
 use Rattle.std.proofs.Math.Option.{Option, none, some}
 use Rattle.records.specs.declared.record.Record.{Record}
 use Rattle.records.specs.declared.kind.Kind.TheVariants.{Reading as ReadingKind}
@@ -21,17 +21,17 @@ use Rattle.records.specs.PlacedPairs.{PlacedPairs, nodes_of, tree_in, top_place,
 use Rattle.records.specs.Free.{next as next_free, left_after, four_taken, four_left, free_at, FreeIn}
 use Rattle.tables.specs.Totals.{Totals, Tables, mended, raised}
 
--- What a map is made of: both tables, the number of places, the place of the root, the number live, and the free places.
+-- What a map is made of: both tables, the number of places, the place of the root if there is one, the number live, and the free places.
 pub record State (K : Type 0) : Type 0 where
   pub records : List Record
   pub tallies : List K
   pub places : ℕ
-  pub root : ℕ
+  pub root : Maybe ℕ
   pub live : ℕ
   pub free : FreePlaces
 
 -- The state of these parts.
-abbrev pub state : {K : Type 0} → List Record → List K → ℕ → ℕ → ℕ → FreePlaces → State K
+abbrev pub state : {K : Type 0} → List Record → List K → ℕ → Maybe ℕ → ℕ → FreePlaces → State K
 state recs ts N root live free = record { records = recs; tallies = ts; places = N; root = root; live = live; free = free }
 
 -- The tree of a map without the places of its nodes; an empty map has none.
@@ -39,10 +39,10 @@ abbrev pub map_tree : {K : Type 0} → Option (PlacedPairs K) → Option (Tree K
 map_tree none = none
 map_tree (some t) = some (tree_in t)
 
--- The place of the root, where 65535 is no node.
-abbrev pub root_of : {K : Type 0} → Option (PlacedPairs K) → ℕ
-root_of none = 65535
-root_of (some t) = top_place t
+-- The place of the root; an empty map has none.
+abbrev pub root_of : {K : Type 0} → Option (PlacedPairs K) → Maybe ℕ
+root_of none = None
+root_of (some t) = Some (top_place t)
 
 -- How often a place is that of a node.
 abbrev pub in_tree : {K : Type 0} → ℕ → Option (PlacedPairs K) → ℕ
@@ -106,10 +106,10 @@ grown_tables join e N recs ts i k priority v n =
 abbrev pub started : {K : Type 0} → State K → ℕ → ℕ → K → State K
 started s k priority v =
     let i : ℕ = next_free s.free in
-    state (first_planted s.records i (record { priority = priority; code = k })) (slice_set s.tallies i v) s.places i 1 (left_after s.records s.free)
+    state (first_planted s.records i (record { priority = priority; code = k })) (slice_set s.tallies i v) s.places (Some i) 1 (left_after s.records s.free)
 
 -- The state after one more reading: the leaf at i has become a pair at the next four free places.
 abbrev pub grown : {K : Type 0} → (K → K → K) → K → State K → ℕ → ℕ → ℕ → K → State K
 grown {K} join e s i k priority v =
     let t : Tables K = grown_tables join e s.places s.records s.tallies i k priority v (four_taken s.records s.free) in
-    state t.records t.tallies s.places t.top (s.live + 1) (four_left s.records s.free)
+    state t.records t.tallies s.places (Some t.top) (s.live + 1) (four_left s.records s.free)

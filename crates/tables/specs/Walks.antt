@@ -1,11 +1,11 @@
 -- The walk over the tables that tallies a shape.
---   numbered        the tests of a shape for any two numbers as the depth and the code of a box
---   crossed, seen   how a node lies to a shape
---   arrived         what follows where the walk has come down to a node
---   returned        where the walk goes from a node that it is done with
---   turned          one turn of a walk
---   starts, ran     the turns of a walk from its start
-use Rattle.std.specs.Prelude.{ℕ, zero, suc, ◌+◌, min, cond, List, ◌==◌, slice_index_or}
+--   numbered                      the tests of a shape for any two numbers as the depth and the code of a box
+--   crossed, seen                 how a node lies to a shape
+--   arrived                       what follows where the walk has come down to a node
+--   returned                      where the walk goes from a node that it is done with
+--   turned                        one turn of a walk
+--   first_position, starts, ran   the turns of a walk from its start
+use Rattle.std.specs.Prelude.{ℕ, zero, suc, ◌+◌, min, cond, List, Some, None, Option as Maybe, ◌==◌, slice_index_or}
 use Rattle.records.specs.declared.record.Record.{Record}
 use Rattle.tables.specs.declared.walk.Sight.{Sight}
 use Rattle.tables.specs.declared.walk.Sight.TheVariants.{Misses, Held, Crosses}
@@ -53,9 +53,14 @@ turned join e q recs ts x (Down i) = arrived join i (at recs i) (slice_index_or 
 turned join e q recs ts x (Back i) = record { position = returned recs (at recs i).parent i; found = x }
 turned join e q recs ts x Finished = record { position = Finished; found = x }
 
--- A walk starts above the root at i with nothing tallied, and is finished where 65535 is the root.
-abbrev pub starts : {K : Type 0} → ℕ → K → Spot K
-starts i e = record { position = cond (i == 65535) Finished (Down i); found = record { tally = e; expanded = 0 } }
+-- Where a walk starts: it comes down to the root, and is finished at once where there is none.
+abbrev pub first_position : Maybe ℕ → Position
+first_position None = Finished
+first_position (Some root) = Down root
+
+-- A walk starts with nothing tallied.
+abbrev pub starts : {K : Type 0} → Maybe ℕ → K → Spot K
+starts root e = record { position = first_position root; found = record { tally = e; expanded = 0 } }
 
 -- What a walk has found after n turns.
 abbrev pub ran : {K : Type 0} → (K → K → K) → K → Tests → List Record → List K → ℕ → Spot K → Tallied K
