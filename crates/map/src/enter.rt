@@ -35,7 +35,7 @@ impl<'a, K: Tally> Map<'a, K> {
         let record = Record {
             kind: Kind::Reading,
             outer: BoxNumbers { depth: 0, code: 0 },
-            inner: BoxNumbers { depth: 33, code: 0 },
+            inner: None,
             first: NONE,
             second: NONE,
             parent: NONE,

@@ -132,15 +132,15 @@ impl<'a, K: Tally> Map<'a, K> {
     }
 
     /// Renews the two tallies of the pair at `x`, if there is one.
-    fn mend(&mut self, x: u16)
+    fn mend(&mut self, x: Option<u16>)
         ensures run { self.new.tallies.now ≡ mended K.Tally.joined K.Tally.neutral self.old.records.now x self.old.tallies.now }
         ensures same { self.new.records.now ≡ self.old.records.now }
         ensures rest { (self.new.places ≡ self.old.places) × ((self.new.root ≡ self.old.root) × ((self.new.live ≡ self.old.live) × ((self.new.fresh ≡ self.old.fresh) × (self.new.freed ≡ self.old.freed)))) }
         ensures lends { Lends self.old self.new }
     {
-        if x == NONE {
+        let Some(x) = x else {
             return;
-        }
+        };
         let rx = self.node(x);
         let rw = self.node(rx.first);
         renew(self.tallies, rx.first, rw.first, rw.second);
@@ -162,7 +162,7 @@ impl<'a, K: Tally> Map<'a, K> {
             }
             let v = nodes::settle::<K>(self.records, s);
             self.mend(v.low);
-            self.mend(v.top);
+            self.mend(Some(v.top));
             s = v.top;
             left -= 1;
         }
@@ -219,7 +219,7 @@ impl<'a, K: Tally> Map<'a, K> {
         nodes::plant::<K>(self.records, i, Rank { priority, code }, n);
         store(self.tallies, n.reading, extra);
         store(self.tallies, n.outer, K::neutral_value());
-        self.mend(n.shrink);
+        self.mend(Some(n.shrink));
         let top = self.rise(n.shrink);
         self.root = top;
     }

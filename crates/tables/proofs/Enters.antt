@@ -1,5 +1,5 @@
 -- A reading that comes to a map that has one: what the map holds then.
-use Rattle.std.proofs.Common.{◌≡◌, ℕ, suc, ◌+◌, ◌*◌, ◌/◌, ◌^◌, ◌<◌, ◌≤◌, min, true, false, cond, ◌≢◌, List, [], ◌∷◌, length, get_or, sym, refl, ap, ◌∙◌, subst, inl, inr, arith}
+use Rattle.std.proofs.Common.{◌≡◌, ℕ, suc, ◌+◌, ◌*◌, ◌/◌, ◌^◌, ◌<◌, ◌≤◌, min, true, false, cond, ◌≢◌, List, [], ◌∷◌, length, get_or, sym, refl, ap, ◌∙◌, subst, inl, inr, arith, Some}
 use mathlib.Core.Option.{Option, none, some}
 use Rattle.std.proofs.lemmas.Bool.{cases_lt}
 use Rattle.records.specs.declared.record.Record.{Record}
@@ -186,7 +186,7 @@ module _ {K : Type 0} (join : K → K → K) (e : K) (k priority : ℕ) (v : K) 
   recs1 = planted s.records i (record { priority = priority; code = k }) n
 
   abbrev ts1 : List K
-  ts1 = mended join e recs1 n.shrink (sown join e n v s.tallies)
+  ts1 = mended join e recs1 (Some n.shrink) (sown join e n v s.tallies)
 
   abbrev new : PlacedPairs K
   new = planted_at n i way.box way.content p

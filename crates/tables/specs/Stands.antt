@@ -8,7 +8,7 @@
 --   takes, freed_after, fresh_after      the next free place, and what is free after it is taken
 --   four_taken, freed_last, fresh_last   the same for four places
 --   grown_tables, started                both tables after a reading is entered
-use Rattle.std.specs.Prelude.{◌≡◌, ℕ, ◌+◌, ◌<◌, ◌≤◌, min, Bool, true, false, cond, List, [], ◌∷◌, length, Ok, Err, ◌==◌, nat_le, slice_index_or, slice_set}
+use Rattle.std.specs.Prelude.{◌≡◌, ℕ, ◌+◌, ◌<◌, ◌≤◌, min, Bool, true, false, cond, List, [], ◌∷◌, length, Ok, Err, ◌==◌, nat_le, slice_index_or, slice_set, None, Some}
 use Rattle.std.proofs.Math.Option.{Option, none, some}
 use Rattle.records.specs.declared.record.Record.{Record}
 use Rattle.records.specs.declared.kind.Kind.TheVariants.{Reading as ReadingKind}
@@ -155,11 +155,11 @@ fresh_last recs freed fresh =
 abbrev pub grown_tables : {K : Type 0} → (K → K → K) → K → ℕ → List Record → List K → ℕ → ℕ → ℕ → K → FourPlaces → Tables K
 grown_tables join e N recs ts i k priority v n =
     let recs1 : List Record = planted recs i (record { priority = priority; code = k }) n in
-    raised join e N recs1 (mended join e recs1 n.shrink (slice_set (slice_set ts n.reading v) n.outer e)) n.shrink
+    raised join e N recs1 (mended join e recs1 (Some n.shrink) (slice_set (slice_set ts n.reading v) n.outer e)) n.shrink
 
 -- The state after the first reading: it is the tree, at the next free place.
 abbrev pub started : {K : Type 0} → State K → ℕ → ℕ → K → State K
 started s k priority v =
     let i : ℕ = takes s.freed s.fresh in
-    state (slice_set s.records i (leaf_record ReadingKind (record { depth = 0; code = 0 }) (record { depth = 33; code = 0 }) 65535 (record { priority = priority; code = k }))) (slice_set s.tallies i v) s.places i 1
+    state (slice_set s.records i (leaf_record ReadingKind (record { depth = 0; code = 0 }) None 65535 (record { priority = priority; code = k }))) (slice_set s.tallies i v) s.places i 1
     (fresh_after s.freed s.fresh) (freed_after s.records s.freed)

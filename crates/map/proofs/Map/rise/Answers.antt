@@ -1,4 +1,4 @@
-use Rattle.std.proofs.Common.{◌≡◌, ◌-◌, List, sym, ap, ◌∙◌}
+use Rattle.std.proofs.Common.{◌≡◌, ◌-◌, List, sym, ap, ◌∙◌, Some}
 use Rattle.records.specs.declared.record.Record.{Record}
 use Rattle.map.proofs.Map.rise.Goals as goal
 use Rattle.tables.specs.Totals.{raised, mended}
@@ -24,7 +24,7 @@ loop-left-preserved g c =
       ap (λ (l : List Record). raised g.K.Tally.joined g.K.Tally.neutral (c.loop-left.left - 1) l c.mend-in-loop-left.new.self.tallies.now c.settle-v.result.top) recs1
           ∙ turns g.K.Tally.joined g.K.Tally.neutral c.loop-left.left c.loop-left.self.records.now c.settle-v.new.records c.loop-left.self.tallies.now c.mend.new.self.tallies.now c.mend-in-loop-left.new.self.tallies.now
           c.loop-left.s c.settle-v.result.top c.settle-v.result.low c.node-r.result c.loop-left-test.true c.node-r.ensures c.if-r.false c.settle-v.ensures.table c.settle-v.ensures.top c.settle-v.ensures.low
-          a.run (b.run ∙ ap (λ (l : List Record). mended g.K.Tally.joined g.K.Tally.neutral l c.settle-v.result.top c.mend.new.self.tallies.now) a.same)
+          a.run (b.run ∙ ap (λ (l : List Record). mended g.K.Tally.joined g.K.Tally.neutral l (Some c.settle-v.result.top) c.mend.new.self.tallies.now) a.same)
           ∙ i.0,
       b.lends.0 ∙ a.lends.0 ∙ i.1,
       b.lends.1 ∙ a.lends.1 ∙ i.2,
