@@ -33,12 +33,12 @@ pub(crate) fn climb<K: Tally>(records: &mut [Record], tallies: &mut [K], places:
 }
 
 /// Renews the two tallies of the pair at `x`, if there is one.
-fn mend<K: Tally>(records: &[Record], tallies: &mut [K], x: u16)
+fn mend<K: Tally>(records: &[Record], tallies: &mut [K], x: Option<u16>)
     ensures run { tallies.new ≡ mended K.Tally.joined K.Tally.neutral records.now x tallies.old }
 {
-    if x == NONE {
+    let Some(x) = x else {
         return;
-    }
+    };
     let rx = read(records, x);
     let rw = read(records, rx.first);
     renew(tallies, rx.first, rw.first, rw.second);
@@ -56,7 +56,7 @@ fn rise<K: Tally>(records: &mut [Record], tallies: &mut [K], places: u16, from: 
         }
         let v = nodes::settle::<K>(records, s);
         mend(records, tallies, v.low);
-        mend(records, tallies, v.top);
+        mend(records, tallies, Some(v.top));
         s = v.top;
     }
     s
@@ -69,8 +69,8 @@ pub(crate) fn mend_and_rise<K: Tally>(
     places: u16,
     from: u16,
 ) -> u16
-    ensures run { tables records.new tallies.new result ≡ raised K.Tally.joined K.Tally.neutral places records.old (mended K.Tally.joined K.Tally.neutral records.old from tallies.old) from }
+    ensures run { tables records.new tallies.new result ≡ raised K.Tally.joined K.Tally.neutral places records.old (mended K.Tally.joined K.Tally.neutral records.old (Some from) tallies.old) from }
 {
-    mend(records, tallies, from);
+    mend(records, tallies, Some(from));
     rise(records, tallies, places, from)
 }

@@ -5,20 +5,20 @@
 mod tests {
     use map::{Map, MapFault};
     use place::Place;
-    use reading::{HalfReading, WholeReading};
     use quadtreap::Rank;
+    use reading::{HalfReading, WholeReading};
     use records::{BoxNumbers, Kind, Record};
     use shape::Disc;
     use std::test::Fail;
     use tally::Sum;
 
-    const NO_BOX: BoxNumbers = BoxNumbers { depth: 7, code: 7 };
+    const USED_BOX: BoxNumbers = BoxNumbers { depth: 7, code: 7 };
 
     // What a table held before is of no matter.
     const USED: Record = Record {
         kind: Kind::Split,
-        outer: NO_BOX,
-        inner: NO_BOX,
+        outer: USED_BOX,
+        inner: Some(USED_BOX),
         first: 1,
         second: 2,
         parent: 3,

@@ -31,7 +31,7 @@ mod tests {
     const VACANT: Record = Record {
         kind: Kind::Reading,
         outer: BoxNumbers { depth: 0, code: 0 },
-        inner: BoxNumbers { depth: 33, code: 0 },
+        inner: None,
         first: NONE,
         second: NONE,
         parent: NONE,

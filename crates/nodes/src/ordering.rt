@@ -34,7 +34,7 @@ pub fn order<K>(records: &mut [Record], s: u16)
     ensures stands { Orders K records.old records.new s }
 {
     let rs = read(records, s);
-    if rs.inner.depth <= 32 {
+    if rs.inner.is_some() {
         rank(records, s, UNRANKED);
         return;
     }

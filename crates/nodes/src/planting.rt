@@ -16,7 +16,7 @@ pub fn plant_first<K>(records: &mut [Record], at: u16, rank: Rank)
     ensures stands { PlantsFirst K records.old records.new at rank }
 {
     let whole = BoxNumbers::from(PlaceBox::whole());
-    let leaf = Record::leaf(Kind::Reading, whole, BoxNumbers::none(), NONE, rank);
+    let leaf = Record::leaf(Kind::Reading, whole, None, NONE, rank);
     write(records, at, leaf);
 }
 
@@ -28,9 +28,9 @@ fn join_leaf(records: &mut [Record], i: u16, e: PlaceBox, rank: Rank, n: FourPla
     let near = BoxNumbers::half(e, ri.content().code);
     let far = BoxNumbers::half(e, rank.code);
     let old = ri.with_outer(near).with_parent(n.split);
-    let new = Record::leaf(Kind::Reading, far, BoxNumbers::none(), n.split, rank);
+    let new = Record::leaf(Kind::Reading, far, None, n.split, rank);
     let on = BoxNumbers::from(e);
-    let rest = Record::leaf(Kind::Box, ri.outer, on, n.shrink, UNRANKED);
+    let rest = Record::leaf(Kind::Box, ri.outer, Some(on), n.shrink, UNRANKED);
     let split = Record::node(Kind::Split, on, ri.inner, i, n.reading, n.shrink);
     let pair = Record::node(
         Kind::Shrink,

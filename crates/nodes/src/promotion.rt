@@ -16,8 +16,8 @@ pub fn promote_left<K>(records: &mut [Record], x: u16)
     let ry = read(records, rw.first);
     let inner = read(records, ry.first).outer;
     let ro = read(records, ry.second);
-    let down = rx.with_rank(UNRANKED).with_inner(inner);
-    let cut = rw.with_rank(UNRANKED).with_inner(inner);
+    let down = rx.with_rank(UNRANKED).with_inner(Some(inner));
+    let cut = rw.with_rank(UNRANKED).with_inner(Some(inner));
     let up = ry.with_outer(rx.outer).with_second(x);
     relink(records, rx.parent, x, rw.first);
     write(records, x, down.with_parent(rw.first));

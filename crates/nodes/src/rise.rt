@@ -5,14 +5,14 @@ ghost use Rattle.records.specs.Promises.{Settles};
 
 use crate::ordering::order;
 use crate::promotion::{promote_left, promote_outer};
-use records::{Kind, NONE, Record, read};
+use records::{Kind, Record, read};
 
-/// The pair that is in its place after a step up, and the pair that it rose over, whose two tallies are to be renewed,
-/// or 65535.
+/// The pair that is in its place after a step up, and the pair that it rose over, if it did, whose two tallies are to
+/// be renewed.
 #[derive(Clone, Copy)]
 pub struct Settled {
     pub top: u16,
-    pub low: u16,
+    pub low: Option<u16>,
 }
 
 /// Whether the node at `a` is a pair, made earlier than the one at `b` if that is a pair.
@@ -45,16 +45,22 @@ pub fn settle<K>(records: &mut [Record], s: u16) -> Settled
         if made_earlier(records, s, up) {
             promote_outer::<K>(records, up);
             order::<K>(records, s);
-            return Settled { top: s, low: up };
+            return Settled {
+                top: s,
+                low: Some(up),
+            };
         }
-        return Settled { top: up, low: NONE };
+        return Settled { top: up, low: None };
     }
     let x = rp.parent;
     if rp.first == s && made_earlier(records, s, x) {
         promote_left::<K>(records, x);
         order::<K>(records, s);
-        return Settled { top: s, low: x };
+        return Settled {
+            top: s,
+            low: Some(x),
+        };
     }
     order::<K>(records, x);
-    Settled { top: x, low: NONE }
+    Settled { top: x, low: None }
 }

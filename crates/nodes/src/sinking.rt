@@ -57,7 +57,7 @@ fn raise_outer<K>(records: &mut [Record], s: u16, i: u16)
     let rs = read(records, s);
     let ri = read(records, i);
     promote_outer::<K>(records, s);
-    if rs.inner.depth <= 32 {
+    if rs.inner.is_some() {
         rank(records, rs.second, UNRANKED);
         return;
     }
@@ -137,7 +137,7 @@ fn sink_pair<K>(records: &mut [Record], s: u16, code: u32) -> Sinking
     if code == read(records, rw.second).rank.code {
         return sink_right::<K>(records, s);
     }
-    if rs.inner.depth > 32 && code == read(records, rw.first).rank.code {
+    if rs.inner.is_none() && code == read(records, rw.first).rank.code {
         return sink_left::<K>(records, s);
     }
     Sinking::On(child_toward(records, s, code))

@@ -74,7 +74,7 @@ module _ {K : Type 0} where
       pub off_ordered : Elsewhere all recs (ordered_in recs s)
       off_ordered =
           subst (Elsewhere all recs) (sym (ordered_computes recs f s w r C i E L R O h))
-          (elim (ltb 32 (inner_numbers i).depth) as (λ b. Elsewhere all recs (cond b (cond (earlier (carried R) (carried L)) (swapped recs s) (ranked recs s (carried L))) (ranked recs s unranked))) [
+          (elim (Rattle.std.specs.Option.is_none (inner_numbers i)) as (λ b. Elsewhere all recs (cond b (cond (earlier (carried R) (carried L)) (swapped recs s) (ranked recs s (carried L))) (ranked recs s unranked))) [
             | true ↦ elim (earlier (carried R) (carried L)) as (λ b. Elsewhere all recs (cond b (swapped recs s) (ranked recs s (carried L)))) [ true ↦ off_swap | false ↦ off_rank (carried L) ]
             | false ↦ off_rank unranked
           ])

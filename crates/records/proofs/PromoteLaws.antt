@@ -1,7 +1,6 @@
 -- The promotions and the order of a pair in the table are those of the tree with its places.
 use Rattle.std.proofs.Common.{◌≡◌, ℕ, ◌+◌, ◌<◌, ◌≤◌, true, false, cond, ltb, List, [], ◌∷◌, length, sym, ap, ◌∙◌, subst, arith}
 use mathlib.Core.Option.{Option, none, some}
-use Rattle.std.proofs.lemmas.Bool.{le-ltb}
 use Rattle.records.specs.declared.record.Record.{Record}
 use Rattle.records.specs.declared.record.BoxNumbers.{BoxNumbers}
 use Rattle.records.specs.declared.kind.Kind.TheVariants.{Shrink, Split}
@@ -191,8 +190,8 @@ module _ {K : Type 0} (recs : List Record) (f : List (NodeFrame K)) where
         }
 
     -- in the order of the ranks
-    abbrev pub by_ranks : BoxNumbers → Rank → Rank → List Record
-    by_ranks g a b = cond (ltb 32 g.depth) (cond (earlier b a) (swapped recs s) (ranked recs s a)) (ranked recs s unranked)
+    abbrev pub by_ranks : Rattle.std.specs.Prelude.Option BoxNumbers → Rank → Rank → List Record
+    by_ranks g a b = cond (Rattle.std.specs.Option.is_none g) (cond (earlier b a) (swapped recs s) (ranked recs s a)) (ranked recs s unranked)
 
     pub ordered_computes : ordered_in recs s ≡ by_ranks (inner_numbers i) (carried L) (carried R)
     ordered_computes =
@@ -212,6 +211,5 @@ module _ {K : Type 0} (recs : List Record) (f : List (NodeFrame K)) where
         | false ↦ ranks s w r C none E L R O h (carried L)
       ])
   orders s w r C (some I) E L R O h =
-      let low : ltb 32 I.depth ≡ false = le-ltb 32 I.depth h.sized.1 in
-      subst (λ t. LiesAmong t f (pair_at s w unranked C (some I) E L R O)) (sym (ordered_computes s w r C (some I) E L R O h ∙ ap (λ b. cond b (cond (earlier (carried R) (carried L)) (swapped recs s) (ranked recs s (carried L))) (ranked recs s unranked)) low))
+      subst (λ t. LiesAmong t f (pair_at s w unranked C (some I) E L R O)) (sym (ordered_computes s w r C (some I) E L R O h))
       (ranks s w r C (some I) E L R O h unranked)

@@ -1,5 +1,5 @@
 -- One step of the rise in the table.
-use Rattle.std.proofs.Common.{◌≡◌, ℕ, Bool, true, false, cond, eqb, ◌≢◌, List, ◌∷◌, sym, refl, ap, ◌∙◌, subst, arith}
+use Rattle.std.proofs.Common.{◌≡◌, ℕ, Bool, true, false, cond, eqb, ◌≢◌, List, ◌∷◌, sym, refl, ap, ◌∙◌, subst, arith, None, Some}
 use mathlib.Core.Option.{Option, none, some}
 use Rattle.std.proofs.lemmas.Bool.{eq-eqb, ne_eqb}
 use Rattle.records.specs.declared.record.Record.{Record}
@@ -26,9 +26,9 @@ abbrev way : List Record → ℕ → ℕ → Record → Rise
 way recs s up rp =
     cond (is_split rp.kind)
     (cond (eqb rp.first s)
-    (cond (earlier_in recs s rp.parent) (risen (ordered_in (promoted_left recs rp.parent) s) s rp.parent) (risen (ordered_in recs rp.parent) rp.parent 65535))
-    (risen (ordered_in recs rp.parent) rp.parent 65535))
-    (cond (earlier_in recs s up) (risen (ordered_in (promoted_outer recs up) s) s up) (risen recs up 65535))
+    (cond (earlier_in recs s rp.parent) (risen (ordered_in (promoted_left recs rp.parent) s) s (Some rp.parent)) (risen (ordered_in recs rp.parent) rp.parent None))
+    (risen (ordered_in recs rp.parent) rp.parent None))
+    (cond (earlier_in recs s up) (risen (ordered_in (promoted_outer recs up) s) s (Some up)) (risen recs up None))
 
 eqs : (n : ℕ) (x y : Rise) → cond (eqb n n) x y ≡ x
 eqs n x y = ap (λ b. cond b x y) (eq-eqb n n refl)
@@ -39,28 +39,28 @@ nes m n x y far = ap (λ b. cond b x y) (ne_eqb m n far)
 -- The ways of a step up, from what it reads.
 module _ (t : List Record) (s : ℕ) (ru rp : Record) (is : ru ≡ at t s) (is' : rp ≡ at t ru.parent) where
   abbrev risen_outer : Rise
-  risen_outer = risen (ordered_in (promoted_outer t ru.parent) s) s ru.parent
+  risen_outer = risen (ordered_in (promoted_outer t ru.parent) s) s (Some ru.parent)
 
   abbrev risen_left : Rise
-  risen_left = risen (ordered_in (promoted_left t rp.parent) s) s rp.parent
+  risen_left = risen (ordered_in (promoted_left t rp.parent) s) s (Some rp.parent)
 
   abbrev stays_below : Rise
-  stays_below = risen (ordered_in t rp.parent) rp.parent 65535
+  stays_below = risen (ordered_in t rp.parent) rp.parent None
 
   abbrev by_tests : Bool → Bool → Bool → Bool → Rise
-  by_tests split' first' left' outer' = cond split' (cond first' (cond left' risen_left stays_below) stays_below) (cond outer' risen_outer (risen t ru.parent 65535))
+  by_tests split' first' left' outer' = cond split' (cond first' (cond left' risen_left stays_below) stays_below) (cond outer' risen_outer (risen t ru.parent None))
 
   reads_way : settled_in t s ≡ by_tests (is_split rp.kind) (eqb rp.first s) (earlier_in t s rp.parent) (earlier_in t s ru.parent)
   reads_way = ap (λ (u : Record). way t s u.parent (at t u.parent)) (sym is) ∙ ap (way t s ru.parent) (sym is')
 
-  not_split : is_split rp.kind ≡ false → settled_in t s ≡ cond (earlier_in t s ru.parent) risen_outer (risen t ru.parent 65535)
+  not_split : is_split rp.kind ≡ false → settled_in t s ≡ cond (earlier_in t s ru.parent) risen_outer (risen t ru.parent None)
   not_split far = reads_way ∙ ap (λ b. by_tests b (eqb rp.first s) (earlier_in t s rp.parent) (earlier_in t s ru.parent)) far
 
   pub over_outer_lem : is_split rp.kind ≡ false → earlier_in t s ru.parent ≡ true → settled_in t s ≡ risen_outer
-  over_outer_lem far yes' = not_split far ∙ ap (λ b. cond b risen_outer (risen t ru.parent 65535)) yes'
+  over_outer_lem far yes' = not_split far ∙ ap (λ b. cond b risen_outer (risen t ru.parent None)) yes'
 
-  pub under_outer : is_split rp.kind ≡ false → earlier_in t s ru.parent ≡ false → settled_in t s ≡ risen t ru.parent 65535
-  under_outer far no' = not_split far ∙ ap (λ b. cond b risen_outer (risen t ru.parent 65535)) no'
+  pub under_outer : is_split rp.kind ≡ false → earlier_in t s ru.parent ≡ false → settled_in t s ≡ risen t ru.parent None
+  under_outer far no' = not_split far ∙ ap (λ b. cond b risen_outer (risen t ru.parent None)) no'
 
   at_split : is_split rp.kind ≡ true → settled_in t s ≡ cond (eqb rp.first s) (cond (earlier_in t s rp.parent) risen_left stays_below) stays_below
   at_split kind = reads_way ∙ ap (λ b. by_tests b (eqb rp.first s) (earlier_in t s rp.parent) (earlier_in t s ru.parent)) kind
@@ -132,12 +132,12 @@ module _ {K : Type 0} where
       left_up = up_first recs (node_frames gs) shrinks s r C i (node_at splits w r E i (nodes_of t) (nodes_of R)) (nodes_of O) (up_first recs _ splits w r E i (nodes_of t) (nodes_of R) h)
 
       abbrev pub left_way : Bool → Rise
-      left_way b = cond b (risen (ordered_in (promoted_left recs s) (top_place t)) (top_place t) s) (risen (ordered_in recs s) s 65535)
+      left_way b = cond b (risen (ordered_in (promoted_left recs s) (top_place t)) (top_place t) (Some s)) (risen (ordered_in recs s) s None)
 
       pub left_goes : settled_in recs (top_place t) ≡ left_way (made_before t R)
       left_goes =
           goes (node_frames (on_left_at s w r C i E R O ∷ gs)) (nodes_of t) _ h.laid h.around.0.reads
-          ∙ eqs (top_place t) (left_way (earlier_in recs (top_place t) s)) (risen (ordered_in recs s) s 65535)
+          ∙ eqs (top_place t) (left_way (earlier_in recs (top_place t) s)) (risen (ordered_in recs s) s None)
           ∙ ap left_way (made_before_lem w (above (node_frames gs)) s w r C i E (nodes_of t) (nodes_of R) (nodes_of O) t R refl h.laid left_up.laid)
 
       left_stays : LiesAmong (ordered_in recs s) (node_frames gs) (nodes_of (ordered_at s w C i E t R O))
@@ -148,13 +148,13 @@ module _ {K : Type 0} where
       pub right_up : LiesAmong recs (node_frames gs) (pair_at s w r C i E (nodes_of L) (nodes_of t) (nodes_of O))
       right_up = up_first recs (node_frames gs) shrinks s r C i (node_at splits w r E i (nodes_of L) (nodes_of t)) (nodes_of O) (up_second recs _ splits w r E i (nodes_of L) (nodes_of t) h)
 
-      pub right_goes : settled_in recs (top_place t) ≡ risen (ordered_in recs s) s 65535
+      pub right_goes : settled_in recs (top_place t) ≡ risen (ordered_in recs s) s None
       right_goes =
           let a = root_occurs (nodes_of L) in
           let b = root_le (nodes_of t) (top_place L) in
           let far : top_place L ≢ top_place t = differ (top_place L) (top_place t) (let n = h.once (top_place L) in omega arith) in
           goes (node_frames (on_right_at s w r C i E L O ∷ gs)) (nodes_of t) _ h.laid h.around.0.reads
-          ∙ nes (top_place L) (top_place t) _ (risen (ordered_in recs s) s 65535) far
+          ∙ nes (top_place L) (top_place t) _ (risen (ordered_in recs s) s None) far
 
       right_stays : LiesAmong (ordered_in recs s) (node_frames gs) (nodes_of (ordered_at s w C i E L t O))
       right_stays = subst (LiesAmong (ordered_in recs s) (node_frames gs)) (sym (nodes_ordered s w C i E L t O)) (orders recs (node_frames gs) s w r C i E (nodes_of L) (nodes_of t) (nodes_of O) right_up)
@@ -165,7 +165,7 @@ module _ {K : Type 0} where
       outer_up = up_second recs (node_frames gs) shrinks s r C i (node_at splits w r E i (nodes_of L) (nodes_of R)) (nodes_of t) h
 
       abbrev pub outer_way : Bool → Rise
-      outer_way b = cond b (risen (ordered_in (promoted_outer recs s) (top_place t)) (top_place t) s) (risen recs s 65535)
+      outer_way b = cond b (risen (ordered_in (promoted_outer recs s) (top_place t)) (top_place t) (Some s)) (risen recs s None)
 
       pub outer_goes : settled_in recs (top_place t) ≡ outer_way (made_before t R)
       outer_goes =
@@ -192,7 +192,7 @@ module _ {K : Type 0} where
         record {
           focus = elim (made_before t R) as (λ b. LiesAmong (left_way gs s w r C i E R O t h b).table (node_frames gs) (nodes_of (cond b (over_left s w C i E t R O) (ordered_at s w C i E t R O)))) [ true ↦ over | false ↦ left_stays gs s w r C i E R O t h ];
           top = elim (made_before t R) as (λ b. (left_way gs s w r C i E R O t h b).top ≡ top_place (cond b (over_left s w C i E t R O) (ordered_at s w C i E t R O))) [ true ↦ sym (place_ordered y v C k F A D low) | false ↦ sym (place_ordered s w C i E t R O) ];
-          low = elim (made_before t R) as (λ b. (left_way gs s w r C i E R O t h b).low ≡ cond b s 65535) [ true ↦ refl | false ↦ refl ];
+          low = elim (made_before t R) as (λ b. (left_way gs s w r C i E R O t h b).low ≡ cond b (Some s) None) [ true ↦ refl | false ↦ refl ];
         }
     settles gs (on_right_at s w r C i E L O) t h =
         subst (Settles gs (on_right_at s w r C i E L O) t) (sym (right_goes gs s w r C i E L O t h))
@@ -210,5 +210,5 @@ module _ {K : Type 0} where
         record {
           focus = elim (made_before t R) as (λ b. LiesAmong (outer_way gs s w r C i E L R t h b).table (node_frames gs) (nodes_of (cond b (over_outer s w r C i E L R t) (placed_pair s w r C i E L R t)))) [ true ↦ over | false ↦ outer_up gs s w r C i E L R t h ];
           top = elim (made_before t R) as (λ b. (outer_way gs s w r C i E L R t h b).top ≡ top_place (cond b (over_outer s w r C i E L R t) (placed_pair s w r C i E L R t))) [ true ↦ sym (place_ordered x v B i F low D o) | false ↦ refl ];
-          low = elim (made_before t R) as (λ b. (outer_way gs s w r C i E L R t h b).low ≡ cond b s 65535) [ true ↦ refl | false ↦ refl ];
+          low = elim (made_before t R) as (λ b. (outer_way gs s w r C i E L R t h b).low ≡ cond b (Some s) None) [ true ↦ refl | false ↦ refl ];
         }

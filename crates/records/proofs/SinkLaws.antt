@@ -1,7 +1,7 @@
 -- One step of a strike in the table.
 use Rattle.std.proofs.Common.{◌≡◌, ℕ, ◌≤◌, Bool, true, false, cond, ◌&&◌, eqb, ltb, List, ◌∷◌, sym, refl, ap, ◌∙◌, subst, arith}
 use mathlib.Core.Option.{Option, none, some}
-use Rattle.std.proofs.lemmas.Bool.{le-ltb, and_parts, false≢true}
+use Rattle.std.proofs.lemmas.Bool.{and_parts, false≢true}
 use Rattle.records.specs.declared.record.Record.{Record}
 use Rattle.records.specs.declared.record.BoxNumbers.{BoxNumbers}
 use Rattle.records.specs.declared.places.FourPlaces.{FourPlaces}
@@ -14,7 +14,7 @@ use Rattle.quadtreap.specs.Pairs.{unranked, earlier_than, is_none}
 use Rattle.quadtreap.specs.Strike.{least_of}
 use Rattle.records.specs.Kinds.{is_leaf, is_pair}
 use Rattle.records.specs.PlacedNodes.{shrinks, splits, inner_numbers, in_record, leaf_kind, PlacedNodes, leaf_at, node_at, pair_at, occurs, Shallow, Sized, NodesRecorded, above}
-use Rattle.records.specs.Writes.{at, box_of, promoted_left, promoted_outer, ranked, swapped, earlier_in, least_in, above_leaves_in, replaced_in, Sink, sinks, raised_outer, sunk_right, sunk_left, child_toward, sunk_pair, sunk_in}
+use Rattle.records.specs.Writes.{at, box_of, promoted_left, promoted_outer, ranked, swapped, no_inner, earlier_in, least_in, above_leaves_in, replaced_in, Sink, sinks, raised_outer, sunk_right, sunk_left, child_toward, sunk_pair, sunk_in}
 use Rattle.records.specs.PlacedPairs.{PlacedPairs, placed_leaf, placed_pair, nodes_of, tree_in, top_place, rank, rank_at, PairFrame, on_left_at, node_frames}
 use Rattle.records.specs.Elsewhere.{Elsewhere}
 use Rattle.records.specs.StrikeMoves.{StrikeMove, finished, onward, lost, move_of, made_at, is_leaf_at, replaced_at, Pair, whole, above_leaves, freed, to_left, to_right, to_outer, left_over, outer_over, exchanged_at, move_right, move_left, move_toward, move_pair}
@@ -93,12 +93,11 @@ module _ {K : Type 0} where
     pub raised_is : (gs : List (PairFrame K)) (s w : ℕ) (r : Rank) (C : Box) (i : Option Box) (E : Box) (L R O : PlacedPairs K) (z : ℕ) (a : Rank) → LiesAmong recs (node_frames gs) (nodes_of (placed_pair s w r C i E L R O)) → (at recs z).rank ≡ a
         → raised_outer recs s z ≡ ranked (promoted_outer recs s) (top_place O) (rank_at i a)
     raised_is gs s w r C none E L R O z a h is =
-        let P : BoxNumbers → ℕ → Rank → List Record = λ g o q. cond (ltb 32 g.depth) (ranked (promoted_outer recs s) o q) (ranked (promoted_outer recs s) o unranked) in
-        ap (λ (v : Record). P v.inner v.second ((at recs z).rank)) h.laid.0.reads ∙ ap (P (inner_numbers none) (top_place O)) is
+        let ranks_by : Record → Rank → List Record = λ v q. cond (no_inner v) (ranked (promoted_outer recs s) v.second q) (ranked (promoted_outer recs s) v.second unranked) in
+        ap (λ (v : Record). ranks_by v ((at recs z).rank)) h.laid.0.reads ∙ ap (ranked (promoted_outer recs s) (top_place O)) is
     raised_is gs s w r C (some I) E L R O z a h is =
-        let P : BoxNumbers → ℕ → Rank → List Record = λ g o q. cond (ltb 32 g.depth) (ranked (promoted_outer recs s) o q) (ranked (promoted_outer recs s) o unranked) in
-        ap (λ (v : Record). P v.inner v.second ((at recs z).rank)) h.laid.0.reads
-        ∙ ap (λ b. cond b (ranked (promoted_outer recs s) (top_place O) (at recs z).rank) (ranked (promoted_outer recs s) (top_place O) unranked)) (le-ltb 32 I.depth h.sized.1)
+        let ranks_by : Record → Rank → List Record = λ v q. cond (no_inner v) (ranked (promoted_outer recs s) v.second q) (ranked (promoted_outer recs s) v.second unranked) in
+        ap (λ (v : Record). ranks_by v ((at recs z).rank)) h.laid.0.reads
 
     over_outer_lem : (gs : List (PairFrame K)) (s w : ℕ) (r : Rank) (C : Box) (i : Option Box) (E : Box) (L R O : PlacedPairs K) (b c : Option Rank) (z : ℕ) (a : Rank) → LiesAmong recs (node_frames gs) (nodes_of (placed_pair s w r C i E L R O)) → (at recs z).rank ≡ a → least_of (made_at O) b c ≡ true
         → Moved recs (used_by (node_frames gs) (nodes_of (placed_pair s w r C i E L R O))) gs (outer_over (record { shrink = s; split = w; rank = r; outer = C; inner = i; box = E; left = L; right = R; out = O }) O a) (sinks (raised_outer recs s z) (On s))
@@ -294,9 +293,9 @@ module _ {K : Type 0} where
           (λ _. either recs used gs (holds (outer (tree_in x.left)) k) _ _ _ _ (λ _. into_left recs gs x h) (λ _. into_right recs gs x h))
           (λ _. into_outer recs gs x h))
 
-      pub inner_box_is : (g : Option Box) → Shallow g → ltb 32 (inner_numbers g).depth ≡ is_none g
-      inner_box_is none deep = refl
-      inner_box_is (some I) deep = le-ltb 32 I.depth deep
+      pub inner_box_is : (g : Option Box) → Rattle.std.specs.Option.is_none (inner_numbers g) ≡ is_none g
+      inner_box_is none = refl
+      inner_box_is (some I) = refl
 
       pub sinks_pair : Moved recs used gs (move_pair x k) (sunk_pair recs s k)
       sinks_pair =
@@ -304,8 +303,8 @@ module _ {K : Type 0} where
           let cl : (at recs l).rank.code ≡ (rank x.left).code = ap (λ (v : Rank). v.code) (rank_is recs x.split (nodes_of x.left) h.laid.1.1) in
           let e : sunk_pair recs s k ≡ chosen recs s k (eqb k (rank x.right).code) (is_none x.inner) (eqb k (rank x.left).code) =
           reads recs s k rs rw at_s at_w
-          ∙ ap (λ n. chosen recs s k (eqb k n) (ltb 32 (inner_numbers x.inner).depth) (eqb k (at recs l).rank.code)) cr
-          ∙ ap (λ v. chosen recs s k (eqb k (rank x.right).code) v (eqb k (at recs l).rank.code)) (inner_box_is x.inner h.sized.1)
+          ∙ ap (λ n. chosen recs s k (eqb k n) (Rattle.std.specs.Option.is_none (inner_numbers x.inner)) (eqb k (at recs l).rank.code)) cr
+          ∙ ap (λ v. chosen recs s k (eqb k (rank x.right).code) v (eqb k (at recs l).rank.code)) (inner_box_is x.inner)
           ∙ ap (λ n. chosen recs s k (eqb k (rank x.right).code) (is_none x.inner) (eqb k n)) cl in
           subst (Moved recs used gs (move_pair x k)) (sym e)
           (either recs used gs (eqb k (rank x.right).code) _ _ _ _ (λ _. sinks_right)

@@ -7,7 +7,7 @@
 --   Sized, Shallow                             the depths are those of boxes
 --   NodeFrame, plug, above                     a node without one of its children
 --   ordered_nodes                              a pair with its children in the order of their ranks
-use Rattle.std.specs.Prelude.{◌≡◌, ℕ, ◌+◌, ◌<◌, ◌≤◌, cond, List, [], ◌∷◌, length, ◌==◌, slice_index_or}
+use Rattle.std.specs.Prelude.{◌≡◌, ℕ, ◌+◌, ◌<◌, ◌≤◌, cond, List, [], ◌∷◌, length, ◌==◌, slice_index_or, None, Some}
 use Rattle.std.proofs.Math.Option.{Option, none, some}
 use Rattle.records.specs.declared.record.BoxNumbers.{BoxNumbers}
 use Rattle.records.specs.declared.record.Record.{Record}
@@ -72,9 +72,9 @@ abbrev pub numbers_of : Box → BoxNumbers
 numbers_of B = record { depth = B.depth; code = B.code }
 
 -- The numbers that a record has of an inner box, or of none.
-abbrev pub inner_numbers : Option Box → BoxNumbers
-inner_numbers none = record { depth = 33; code = 0 }
-inner_numbers (some I) = numbers_of I
+abbrev pub inner_numbers : Option Box → Rattle.std.specs.Prelude.Option BoxNumbers
+inner_numbers none = None
+inner_numbers (some I) = Some (numbers_of I)
 
 -- The kind that the record of a node with children has.
 abbrev pub kind_of : NodeKind → Kind
@@ -102,7 +102,7 @@ blank =
     record {
       kind = ReadingKind;
       outer = record { depth = 0; code = 0 };
-      inner = record { depth = 0; code = 0 };
+      inner = None;
       first = 0;
       second = 0;
       parent = 0;

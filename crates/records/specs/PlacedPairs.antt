@@ -7,7 +7,7 @@
 --   ordered_at, made_before, over_left, over_outer, settled_at, settled_all, risen_over   the rise
 --   Reaches                                                                               a code leads to a leaf
 --   four, Free, planted_at                                                                a new pair at four places that no node has
-use Rattle.std.specs.Prelude.{◌≡◌, ℕ, ◌+◌, ◌<◌, ◌≤◌, Bool, true, false, cond, List, [], ◌∷◌, length}
+use Rattle.std.specs.Prelude.{◌≡◌, ℕ, ◌+◌, ◌<◌, ◌≤◌, Bool, true, false, cond, List, [], ◌∷◌, length, None, Some}
 use Rattle.std.proofs.Math.Option.{Option, none, some}
 use Rattle.records.specs.declared.record.Record.{Record}
 use Rattle.records.specs.declared.places.FourPlaces.{FourPlaces}
@@ -123,11 +123,11 @@ settled_at (on_left_at s w r C i E R O) t = cond (made_before t R) (over_left s 
 settled_at (on_right_at s w r C i E L O) t = ordered_at s w C i E L t O
 settled_at (on_outer_at s w r C i E L R) t = cond (made_before t R) (over_outer s w r C i E L R t) (placed_pair s w r C i E L R t)
 
--- The place of the pair that t rises over. The number 65535 is none.
-abbrev pub risen_over : {K : Type 0} → PairFrame K → PlacedPairs K → ℕ
-risen_over (on_left_at s w r C i E R O) t = cond (made_before t R) s 65535
-risen_over (on_right_at s w r C i E L O) t = 65535
-risen_over (on_outer_at s w r C i E L R) t = cond (made_before t R) s 65535
+-- The place of the pair that t rises over, or none.
+abbrev pub risen_over : {K : Type 0} → PairFrame K → PlacedPairs K → Rattle.std.specs.Prelude.Option ℕ
+risen_over (on_left_at s w r C i E R O) t = cond (made_before t R) (Some s) None
+risen_over (on_right_at s w r C i E L O) t = None
+risen_over (on_outer_at s w r C i E L R) t = cond (made_before t R) (Some s) None
 
 -- The code k leads from the root of t to the leaf at i.
 pub record Reaches {K : Type 0} (t : PlacedPairs K) (k i : ℕ) : Type 0 where

@@ -83,8 +83,8 @@ Plants K entry exit i q n =
     → LiesIn entry (nodes_of (put_in_all gs (placed_leaf i C c))) → Free entry (put_in_all gs (placed_leaf i C c)) n → (smallest (extent c) (point_of p)).depth < 32
     → Planted entry exit gs n i C c p
 
--- One step of the rise: t is settled in its frame, `top` is in its place, and `low` is the pair that it rose over. Nothing else changed.
-pub record Rises {K : Type 0} (entry exit : List Record) (gs : List (PairFrame K)) (g : PairFrame K) (t : PlacedPairs K) (top low : ℕ) : Type 0 where
+-- One step of the rise: t is settled in its frame, `top` is in its place, and `low` is the pair that it rose over, or none. Nothing else changed.
+pub record Rises {K : Type 0} (entry exit : List Record) (gs : List (PairFrame K)) (g : PairFrame K) (t : PlacedPairs K) (top : ℕ) (low : Rattle.std.specs.Prelude.Option ℕ) : Type 0 where
   pub kept : LiesIn exit (nodes_of (put_in_all gs (settled_at g t)))
   pub tree : tree_in (settled_at g t) ≡ settle_tree (frame g) (tree_in t)
   pub right : RanksStand (settled_at g t)
@@ -94,7 +94,7 @@ pub record Rises {K : Type 0} (entry exit : List Record) (gs : List (PairFrame K
   pub same : Elsewhere (places_of (put_in_all (g ∷ gs) t)) entry exit
 
 -- The tree at s is settled in its frame.
-abbrev pub Settles : Type 0 → List Record → List Record → ℕ → ℕ → ℕ → Type 0
+abbrev pub Settles : Type 0 → List Record → List Record → ℕ → ℕ → Rattle.std.specs.Prelude.Option ℕ → Type 0
 Settles K entry exit s top low =
     (gs : List (PairFrame K)) (g : PairFrame K) (t : PlacedPairs K) → FrameRanksStand g → RanksStand t → s ≡ top_place t → LiesIn entry (nodes_of (put_in_all (g ∷ gs) t)) → Rises entry exit gs g t top low
 

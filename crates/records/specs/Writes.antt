@@ -11,7 +11,8 @@
 --   joined_in, planted, first_planted                                              a new reading
 --   least_in, above_leaves_in, replaced_in, freed_in, raised_outer, child_toward   what a step of a strike asks and does
 --   Sink, sinks, sunk_right, sunk_left, sunk_pair, sunk_in, followed, struck_in    the steps of a strike
-use Rattle.std.specs.Prelude.{ℕ, zero, suc, min, Bool, true, false, cond, List, [], ◌∷◌, ◌==◌, nat_lt, slice_index_or, slice_set}
+use Rattle.std.specs.Prelude.{ℕ, zero, suc, min, Bool, true, false, cond, List, [], ◌∷◌, ◌==◌, slice_index_or, slice_set, Option, None, Some}
+use Rattle.std.specs.Option.{is_none, unwrap_or}
 use Rattle.records.specs.declared.record.BoxNumbers.{BoxNumbers}
 use Rattle.records.specs.declared.record.Record.{Record}
 use Rattle.records.specs.declared.kind.Kind.{Kind}
@@ -23,7 +24,7 @@ use Rattle.place.specs.Boxes.{Box, cut, whole, point, holds, smallest}
 use Rattle.quadtreap.specs.declared.rank.Rank.{Rank}
 use Rattle.quadtreap.specs.Rank.{earlier}
 use Rattle.quadtreap.specs.Pairs.{unranked}
-use Rattle.records.specs.Kinds.{is_leaf, is_reading, is_pair, is_split}
+use Rattle.records.specs.Kinds.{is_leaf, is_pair, is_split}
 use Rattle.records.specs.PlacedNodes.{blank, numbers_of}
 
 -- The record at a place, blank past the end.
@@ -60,8 +61,8 @@ with_parent r p = record { kind = r.kind; outer = r.outer; inner = r.inner; firs
 abbrev pub with_outer : Record → BoxNumbers → Record
 with_outer r c = record { kind = r.kind; outer = c; inner = r.inner; first = r.first; second = r.second; parent = r.parent; rank = r.rank }
 
--- The record with the inner box c.
-abbrev pub with_inner : Record → BoxNumbers → Record
+-- The record with the inner box c, or with none.
+abbrev pub with_inner : Record → Option BoxNumbers → Record
 with_inner r c = record { kind = r.kind; outer = r.outer; inner = c; first = r.first; second = r.second; parent = r.parent; rank = r.rank }
 
 -- The record with the rank q.
@@ -85,8 +86,8 @@ promoted_left t x =
     let inner_box : BoxNumbers = (at t ry.first).outer in
     let ro : Record = at t ry.second in
     wrote
-    (write x (with_parent (with_inner (with_rank rx unranked) inner_box) rw.first)
-    ∷ write rx.first (with_first (with_inner (with_rank rw unranked) inner_box) ry.second)
+    (write x (with_parent (with_inner (with_rank rx unranked) (Some inner_box)) rw.first)
+    ∷ write rx.first (with_first (with_inner (with_rank rw unranked) (Some inner_box)) ry.second)
     ∷ write rw.first (with_parent (with_second (with_outer ry rx.outer) x) rx.parent)
     ∷ write ry.second (with_parent ro rx.first)
     ∷ [])
@@ -128,7 +129,7 @@ swapped t s =
 
 -- Whether a record has no inner box.
 abbrev pub no_inner : Record → Bool
-no_inner r = nat_lt 32 r.inner.depth
+no_inner r = is_none r.inner
 
 -- The pair at s has its left and right child in the order of their ranks where it has no inner box, and is ranked.
 abbrev pub ordered_in : List Record → ℕ → List Record
@@ -152,10 +153,10 @@ earlier_in t a b =
 pub record Rise : Type 0 where
   pub table : List Record
   pub top : ℕ
-  pub low : ℕ
+  pub low : Option ℕ
 
--- A step up that ends in the table t, with the pair x in its place, over y.
-abbrev pub risen : List Record → ℕ → ℕ → Rise
+-- A step up that ends in the table t, with the pair x in its place, over the pair y or over none.
+abbrev pub risen : List Record → ℕ → Option ℕ → Rise
 risen t x y = record { table = t; top = x; low = y }
 
 -- One step up from the pair at s: it rises over the pair above it if it was made earlier, and the pair on top is ordered.
@@ -165,9 +166,9 @@ settled_in t s =
     let rp : Record = at t rs.parent in
     cond (is_split rp.kind)
     (cond (rp.first == s)
-    (cond (earlier_in t s rp.parent) (risen (ordered_in (promoted_left t rp.parent) s) s rp.parent) (risen (ordered_in t rp.parent) rp.parent 65535))
-    (risen (ordered_in t rp.parent) rp.parent 65535))
-    (cond (earlier_in t s rs.parent) (risen (ordered_in (promoted_outer t rs.parent) s) s rs.parent) (risen t rs.parent 65535))
+    (cond (earlier_in t s rp.parent) (risen (ordered_in (promoted_left t rp.parent) s) s (Some rp.parent)) (risen (ordered_in t rp.parent) rp.parent None))
+    (risen (ordered_in t rp.parent) rp.parent None))
+    (cond (earlier_in t s rs.parent) (risen (ordered_in (promoted_outer t rs.parent) s) s (Some rs.parent)) (risen t rs.parent None))
 
 -- The box of two numbers of a record.
 abbrev pub box_of : BoxNumbers → Box
@@ -184,16 +185,16 @@ descended (suc n) t i k =
 abbrev pub half_numbers : Box → ℕ → BoxNumbers
 half_numbers e c = numbers_of (cut (min (suc e.depth) 32) c)
 
--- What a leaf holds, as a box: the place of its reading, or its inner box.
+-- What a leaf holds, as a box: its inner box, or the place of its reading.
 abbrev pub content_numbers : Record → BoxNumbers
-content_numbers r = cond (is_reading r.kind) (record { depth = 32; code = r.rank.code }) r.inner
+content_numbers r = unwrap_or r.inner (record { depth = 32; code = r.rank.code })
 
 -- The record of a leaf.
-abbrev pub leaf_record : Kind → BoxNumbers → BoxNumbers → ℕ → Rank → Record
+abbrev pub leaf_record : Kind → BoxNumbers → Option BoxNumbers → ℕ → Rank → Record
 leaf_record k outer inner p q = record { kind = k; outer = outer; inner = inner; first = 65535; second = 65535; parent = p; rank = q }
 
 -- The record of a node with children, and with no rank yet.
-abbrev pub node_record : Kind → BoxNumbers → BoxNumbers → ℕ → ℕ → ℕ → Record
+abbrev pub node_record : Kind → BoxNumbers → Option BoxNumbers → ℕ → ℕ → ℕ → Record
 node_record k outer inner a b p = record { kind = k; outer = outer; inner = inner; first = a; second = b; parent = p; rank = unranked }
 
 -- The leaf at i becomes the left child of a new pair on e, at the places n. A new reading with the rank q is the right child.
@@ -202,8 +203,8 @@ joined_in t i e q n =
     let ri : Record = at t i in
     wrote
     (write i (with_parent (with_outer ri (half_numbers e (content_numbers ri).code)) n.split)
-    ∷ write n.reading (leaf_record ReadingKind (half_numbers e q.code) (record { depth = 33; code = 0 }) n.split q)
-    ∷ write n.outer (leaf_record BoxKind ri.outer (numbers_of e) n.shrink unranked)
+    ∷ write n.reading (leaf_record ReadingKind (half_numbers e q.code) None n.split q)
+    ∷ write n.outer (leaf_record BoxKind ri.outer (Some (numbers_of e)) n.shrink unranked)
     ∷ write n.split (node_record Split (numbers_of e) ri.inner i n.reading n.shrink)
     ∷ write n.shrink (node_record Shrink ri.outer ri.inner n.split n.outer ri.parent)
     ∷ [])
@@ -215,7 +216,7 @@ planted t i q n = ordered_in (joined_in t i (smallest (box_of (content_numbers (
 
 -- The leaf of the only reading, which has the rank q, is written at i, over the whole square.
 abbrev pub first_planted : List Record → ℕ → Rank → List Record
-first_planted t i q = slice_set t i (leaf_record ReadingKind (numbers_of whole) (record { depth = 33; code = 0 }) 65535 q)
+first_planted t i q = slice_set t i (leaf_record ReadingKind (numbers_of whole) None 65535 q)
 
 -- Whether the node at a is a pair, and made first of the three.
 abbrev pub least_in : List Record → ℕ → ℕ → ℕ → Bool

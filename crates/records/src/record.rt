@@ -13,7 +13,7 @@ use quadtreap::{Rank, UNRANKED};
 /// No node.
 pub const NONE: u16 = 65535;
 
-/// The depth and the code of a box. A depth past 32 is no box.
+/// The depth and the code of a box.
 #[derive(Clone, Copy)]
 pub struct BoxNumbers {
     pub depth: u8,
@@ -32,13 +32,6 @@ impl From<PlaceBox> for BoxNumbers {
 }
 
 impl BoxNumbers {
-    /// No box.
-    pub fn none() -> BoxNumbers
-        ensures value { result ≡ record { depth = 33; code = 0 } }
-    {
-        BoxNumbers { depth: 33, code: 0 }
-    }
-
     /// The numbers of the half of a box that contains a code. The box of one code is its own half.
     pub fn half(whole: PlaceBox, code: u32) -> BoxNumbers
         ensures value { result ≡ half_numbers (box_in whole) code }
@@ -66,7 +59,7 @@ impl BoxNumbers {
 pub struct Record {
     pub kind: Kind,
     pub outer: BoxNumbers,
-    pub inner: BoxNumbers,
+    pub inner: Option<BoxNumbers>,
     pub first: u16,
     pub second: u16,
     pub parent: u16,
@@ -75,7 +68,13 @@ pub struct Record {
 
 impl Record {
     /// The record of a leaf.
-    pub fn leaf(kind: Kind, outer: BoxNumbers, inner: BoxNumbers, parent: u16, rank: Rank) -> Record
+    pub fn leaf(
+        kind: Kind,
+        outer: BoxNumbers,
+        inner: Option<BoxNumbers>,
+        parent: u16,
+        rank: Rank,
+    ) -> Record
         ensures value { result ≡ leaf_record kind outer inner parent rank }
     {
         Record {
@@ -93,7 +92,7 @@ impl Record {
     pub fn node(
         kind: Kind,
         outer: BoxNumbers,
-        inner: BoxNumbers,
+        inner: Option<BoxNumbers>,
         first: u16,
         second: u16,
         parent: u16,
@@ -139,8 +138,8 @@ impl Record {
         Record { outer, ..self }
     }
 
-    /// The record with another inner box.
-    pub fn with_inner(self, inner: BoxNumbers) -> Record
+    /// The record with another inner box, or with none.
+    pub fn with_inner(self, inner: Option<BoxNumbers>) -> Record
         ensures value { result ≡ with_inner self inner }
     {
         Record { inner, ..self }
@@ -161,16 +160,13 @@ impl Record {
         self.rank < other.rank
     }
 
-    /// What a leaf holds, as a box: the place of its reading, or its inner box.
+    /// What a leaf holds, as a box: its inner box, or the place of its reading.
     pub fn content(self) -> BoxNumbers
         ensures value { result ≡ content_numbers self }
     {
-        if self.kind == Kind::Reading {
-            return BoxNumbers {
-                depth: 32,
-                code: self.rank.code,
-            };
-        }
-        self.inner
+        self.inner.unwrap_or(BoxNumbers {
+            depth: 32,
+            code: self.rank.code,
+        })
     }
 }

@@ -6,11 +6,11 @@ use crate::kind::Kind;
 use crate::record::{BoxNumbers, NONE, Record};
 use quadtreap::UNRANKED;
 
-/// A record of zeros, for tables that hold nothing yet.
+/// A record of zeros and no inner box, for tables that hold nothing yet.
 pub const BLANK: Record = Record {
     kind: Kind::Reading,
     outer: BoxNumbers { depth: 0, code: 0 },
-    inner: BoxNumbers { depth: 0, code: 0 },
+    inner: None,
     first: 0,
     second: 0,
     parent: 0,

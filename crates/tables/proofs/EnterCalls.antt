@@ -140,9 +140,9 @@ module _ {K : Type 0} (join : K → K → K) (e : K) where
 
 -- both tables, as the calls on the way answered them
 pub grown_run : {K : Type 0} (join : K → K → K) (e : K) (N i k priority : ℕ) (v z : K) (recs recs1 : List Record) (ts ts1 ts2 : List K) (n : FourPlaces) (t : Tables K)
-    → recs1 ≡ planted recs i (record { priority = priority; code = k }) n → ts1 ≡ set ts n.reading v → z ≡ e → ts2 ≡ set ts1 n.outer z → t ≡ raised join e N recs1 (mended join e recs1 n.shrink ts2) n.shrink
+    → recs1 ≡ planted recs i (record { priority = priority; code = k }) n → ts1 ≡ set ts n.reading v → z ≡ e → ts2 ≡ set ts1 n.outer z → t ≡ raised join e N recs1 (mended join e recs1 (Some n.shrink) ts2) n.shrink
     → t ≡ grown_tables join e N recs ts i k priority v n
 grown_run {K} join e N i k priority v z recs recs1 ts ts1 ts2 n t er e1 ez e2 et =
-    et ∙ ap (λ (l : List Record). raised join e N l (mended join e l n.shrink ts2) n.shrink) er
-    ∙ ap (λ (l : List K). raised join e N (planted recs i (record { priority = priority; code = k }) n) (mended join e (planted recs i (record { priority = priority; code = k }) n) n.shrink l) n.shrink)
+    et ∙ ap (λ (l : List Record). raised join e N l (mended join e l (Some n.shrink) ts2) n.shrink) er
+    ∙ ap (λ (l : List K). raised join e N (planted recs i (record { priority = priority; code = k }) n) (mended join e (planted recs i (record { priority = priority; code = k }) n) (Some n.shrink) l) n.shrink)
     (e2 ∙ ap (λ (x : K). set ts1 n.outer x) ez ∙ ap (λ (l : List K). set l n.outer e) e1)

@@ -135,7 +135,7 @@ module _ {K : Type 0} (join : K → K → K) (e : K) (k priority : ℕ) (v : K) 
   recs1 = planted s.records i (record { priority = priority; code = k }) n
 
   abbrev ts1 : List K
-  ts1 = mended join e recs1 n.shrink (sown join e n v s.tallies)
+  ts1 = mended join e recs1 (Some n.shrink) (sown join e n v s.tallies)
 
   abbrev new : PlacedPairs K
   new = planted_at n i way.box way.content p

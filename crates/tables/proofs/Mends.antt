@@ -1,7 +1,6 @@
 -- A pair whose children have their entries gets its own two, and so each step of a rise.
-use Rattle.std.proofs.Common.{◌≡◌, ℕ, ◌+◌, ◌<◌, ◌≤◌, true, false, cond, ◌≢◌, List, [], ◌∷◌, length, get_or, set, sym, refl, ap, ◌∙◌, subst, arith, length-set, get_or-set_other, get_or-set_same}
+use Rattle.std.proofs.Common.{◌≡◌, ℕ, ◌+◌, ◌<◌, ◌≤◌, true, false, cond, List, [], ◌∷◌, length, get_or, set, sym, refl, ap, ◌∙◌, subst, arith, length-set, get_or-set_other, get_or-set_same, None, Some}
 use mathlib.Core.Option.{Option, none, some}
-use Rattle.std.proofs.lemmas.Bool.{eq-eqb, ne_eqb}
 use Rattle.records.specs.declared.record.Record.{Record}
 use Rattle.place.specs.Boxes.{Box}
 use Rattle.quadtreap.specs.Tree.{outer}
@@ -52,19 +51,15 @@ module _ {K : Type 0} (join : K → K → K) (e : K) where
   beside_in used ts ts' b (second k p r C g x ∷ f) off h =
       (subst (λ n. p < n) (sym b.long) h.0, totals_in used ts ts' b x (λ j s. off j (omega arith)) h.1, beside_in used ts ts' b f (λ j s. off j (omega arith)) h.2)
 
-  pub mended_none : (recs : List Record) (ts : List K) → mended join e recs 65535 ts ≡ ts
-  mended_none recs ts =
-      ap (λ b. cond b ts (renewed join e (renewed join e ts (at recs 65535).first (at recs (at recs 65535).first).first (at recs (at recs 65535).first).second) 65535 (at recs 65535).first (at recs 65535).second)) (eq-eqb 65535 65535 refl)
-
   -- the two entries of a pair anew
   pub record Mends (ts ts' : List K) (s w : ℕ) (t : PlacedNodes K) : Type 0 where
     pub totals : Totals join e ts' t
     pub beyond : Beyond (λ j. one j s + one j w) ts ts'
 
   pub mends : (recs : List Record) (ts : List K) (p s w : ℕ) (r : Rank) (C : Box) (g : Option Box) (E : Box) (L R O : PlacedNodes K) → NodesRecorded recs p (pair_at s w r C g E L R O)
-      → ((j : ℕ) → occurs j (pair_at s w r C g E L R O) ≤ 1) → s ≢ 65535 → s < length ts → w < length ts → Totals join e ts L → Totals join e ts R → Totals join e ts O
-      → Mends ts (mended join e recs s ts) s w (pair_at s w r C g E L R O)
-  mends recs ts p s w r C g E L R O h once far ins inw hl hr ho =
+      → ((j : ℕ) → occurs j (pair_at s w r C g E L R O) ≤ 1) → s < length ts → w < length ts → Totals join e ts L → Totals join e ts R → Totals join e ts O
+      → Mends ts (mended join e recs (Some s) ts) s w (pair_at s w r C g E L R O)
+  mends recs ts p s w r C g E L R O h once ins inw hl hr ho =
       let os = one_same s in
       let ow = one_same w in
       let n = once s in
@@ -73,9 +68,8 @@ module _ {K : Type 0} (join : K → K → K) (e : K) where
       let ts1 : List K = set ts w x in
       let y : K = join (get_or ts1 w e) (get_or ts1 (place_of O) e) in
       let ts2 : List K = set ts1 s y in
-      let is : mended join e recs s ts ≡ ts2 =
-      ap (λ b. cond b ts (renewed join e (renewed join e ts (at recs s).first (at recs (at recs s).first).first (at recs (at recs s).first).second) s (at recs s).first (at recs s).second)) (ne_eqb s 65535 far)
-      ∙ ap (λ (v : Record). renewed join e (renewed join e ts v.first (at recs v.first).first (at recs v.first).second) s v.first v.second) h.0.reads
+      let is : mended join e recs (Some s) ts ≡ ts2 =
+      ap (λ (v : Record). renewed join e (renewed join e ts v.first (at recs v.first).first (at recs v.first).second) s v.first v.second) h.0.reads
       ∙ ap (λ (v : Record). renewed join e (renewed join e ts w v.first v.second) s w (place_of O)) h.1.0.reads in
       let beyond' : Beyond (λ j. one j s + one j w) ts ts2 = record {
         long = length-set ts1 s y ∙ length-set ts w x;
@@ -105,14 +99,14 @@ module _ {K : Type 0} (join : K → K → K) (e : K) where
 
   -- the same of a pair in the order of its ranks
   pub mends_ordered : (recs : List Record) (ts : List K) (p s w : ℕ) (C : Box) (g : Option Box) (E : Box) (L R O : PlacedNodes K) → NodesRecorded recs p (ordered_nodes s w C g E L R O)
-      → ((j : ℕ) → (one j s + ((one j w + (occurs j L + occurs j R)) + occurs j O)) ≤ 1) → s ≢ 65535 → s < length ts → w < length ts → Totals join e ts L → Totals join e ts R → Totals join e ts O
-      → Mends ts (mended join e recs s ts) s w (ordered_nodes s w C g E L R O)
-  mends_ordered recs ts p s w C none E L R O h once far ins inw hl hr ho =
-      (elim (earlier (carried R) (carried L)) as (λ b. NodesRecorded recs p (cond b (pair_at s w (carried R) C none E R L O) (pair_at s w (carried L) C none E L R O)) → Mends ts (mended join e recs s ts) s w (cond b (pair_at s w (carried R) C none E R L O) (pair_at s w (carried L) C none E L R O))) [
-        | true ↦ λ l. mends recs ts p s w (carried R) C none E R L O l (λ j. let q = once j in omega arith) far ins inw hr hl ho
-        | false ↦ λ l. mends recs ts p s w (carried L) C none E L R O l once far ins inw hl hr ho
+      → ((j : ℕ) → (one j s + ((one j w + (occurs j L + occurs j R)) + occurs j O)) ≤ 1) → s < length ts → w < length ts → Totals join e ts L → Totals join e ts R → Totals join e ts O
+      → Mends ts (mended join e recs (Some s) ts) s w (ordered_nodes s w C g E L R O)
+  mends_ordered recs ts p s w C none E L R O h once ins inw hl hr ho =
+      (elim (earlier (carried R) (carried L)) as (λ b. NodesRecorded recs p (cond b (pair_at s w (carried R) C none E R L O) (pair_at s w (carried L) C none E L R O)) → Mends ts (mended join e recs (Some s) ts) s w (cond b (pair_at s w (carried R) C none E R L O) (pair_at s w (carried L) C none E L R O))) [
+        | true ↦ λ l. mends recs ts p s w (carried R) C none E R L O l (λ j. let q = once j in omega arith) ins inw hr hl ho
+        | false ↦ λ l. mends recs ts p s w (carried L) C none E L R O l once ins inw hl hr ho
       ]) h
-  mends_ordered recs ts p s w C (some I) E L R O h once far ins inw hl hr ho = mends recs ts p s w unranked C (some I) E L R O h once far ins inw hl hr ho
+  mends_ordered recs ts p s w C (some I) E L R O h once ins inw hl hr ho = mends recs ts p s w unranked C (some I) E L R O h once ins inw hl hr ho
 
   -- what a table has of a ordered pair
   ordered_parts : (recs : List Record) (p s w : ℕ) (C : Box) (g : Option Box) (E : Box) (L R O : PlacedNodes K) → NodesRecorded recs p (ordered_nodes s w C g E L R O) → NodesRecorded recs s O × NodesRecorded recs w L
@@ -121,31 +115,27 @@ module _ {K : Type 0} (join : K → K → K) (e : K) where
   ordered_parts recs p s w C (some I) E L R O = λ h. (h.2, h.1.1)
 
   -- both pairs of a step
-  abbrev pub mended_both : List Record → ℕ → ℕ → List K → List K
-  mended_both recs top low ts = mended join e recs top (mended join e recs low ts)
+  abbrev pub mended_both : List Record → ℕ → Rattle.std.specs.Prelude.Option ℕ → List K → List K
+  mended_both recs top low ts = mended join e recs (Some top) (mended join e recs low ts)
 
   pub record Steps (ts ts' : List K) (gs : List (PairFrame K)) (u : PlacedPairs K) : Type 0 where
     pub totals : Totals join e ts' (nodes_of u)
     pub beside : Beside join e ts' (node_frames gs)
     pub beyond : Beyond (λ j. occurs j (nodes_of u)) ts ts'
 
-  high : (recs : List Record) (f : List (NodeFrame K)) (t : PlacedNodes K) → LiesAmong recs f t → (p : ℕ) → 1 ≤ occurs p t + occurs_around p f → p ≢ 65535
-  high recs f t h p there is = let z = h.low p (omega arith) in absurd (omega arith)
-
   -- a ordered pair in place, nothing rose
   stay_ordered : (recs : List Record) (gs : List (PairFrame K)) (s w : ℕ) (C : Box) (g : Option Box) (E : Box) (L R O : PlacedPairs K) (ts : List K) → LiesAmong recs (node_frames gs) (nodes_of (ordered_at s w C g E L R O))
-      → ((j : ℕ) → (one j s + ((one j w + (occurs j (nodes_of L) + occurs j (nodes_of R))) + occurs j (nodes_of O))) + occurs_around j (node_frames gs) ≤ 1) → s ≢ 65535 → s < length ts → w < length ts
-      → Totals join e ts (nodes_of L) → Totals join e ts (nodes_of R) → Totals join e ts (nodes_of O) → Beside join e ts (node_frames gs) → Steps ts (mended_both recs s 65535 ts) gs (ordered_at s w C g E L R O)
-  stay_ordered recs gs s w C g E L R O ts h once far ins inw hl hr ho bes =
+      → ((j : ℕ) → (one j s + ((one j w + (occurs j (nodes_of L) + occurs j (nodes_of R))) + occurs j (nodes_of O))) + occurs_around j (node_frames gs) ≤ 1) → s < length ts → w < length ts
+      → Totals join e ts (nodes_of L) → Totals join e ts (nodes_of R) → Totals join e ts (nodes_of O) → Beside join e ts (node_frames gs) → Steps ts (mended_both recs s None ts) gs (ordered_at s w C g E L R O)
+  stay_ordered recs gs s w C g E L R O ts h once ins inw hl hr ho bes =
       let is = nodes_ordered s w C g E L R O in
       let os = one_same s in
       let ow = one_same w in
-      let m = mends_ordered recs ts (above (node_frames gs)) s w C g E (nodes_of L) (nodes_of R) (nodes_of O) (subst (NodesRecorded recs (above (node_frames gs))) is h.laid) (λ j. let q = once j in omega arith) far ins inw hl hr ho in
+      let m = mends_ordered recs ts (above (node_frames gs)) s w C g E (nodes_of L) (nodes_of R) (nodes_of O) (subst (NodesRecorded recs (above (node_frames gs))) is h.laid) (λ j. let q = once j in omega arith) ins inw hl hr ho in
       let occurs_all : (j : ℕ) → occurs j (nodes_of (ordered_at s w C g E L R O)) ≡ (one j s + ((one j w + (occurs j (nodes_of L) + occurs j (nodes_of R))) + occurs j (nodes_of O))) = λ j. places_ordered s w C g E L R O j in
-      subst (λ (l : List K). Steps ts l gs (ordered_at s w C g E L R O)) (ap (mended join e recs s) (sym (mended_none recs ts)))
       record {
-        totals = subst (Totals join e (mended join e recs s ts)) (sym is) m.totals;
-        beside = beside_in (λ j. one j s + one j w) ts (mended join e recs s ts) m.beyond (node_frames gs) (λ j z. let q = once j in omega arith) bes;
+        totals = subst (Totals join e (mended join e recs (Some s) ts)) (sym is) m.totals;
+        beside = beside_in (λ j. one j s + one j w) ts (mended join e recs (Some s) ts) m.beyond (node_frames gs) (λ j z. let q = once j in omega arith) bes;
         beyond = record { long = m.beyond.long; reads = λ j d z. let q = occurs_all j in m.beyond.reads j d (omega arith) };
       }
 
@@ -153,7 +143,7 @@ module _ {K : Type 0} (join : K → K → K) (e : K) where
   rise_left : (recs recs' : List Record) (gs : List (PairFrame K)) (s w : ℕ) (r : Rank) (C : Box) (i : Option Box) (E : Box) (R O : PlacedPairs K) (y v : ℕ) (q : Rank) (B : Box) (k : Option Box) (F : Box) (A D o : PlacedPairs K) (ts : List K)
       → LiesAmong recs (node_frames (on_left_at s w r C i E R O ∷ gs)) (nodes_of (placed_pair y v q B k F A D o)) → LiesAmong recs' (node_frames gs) (nodes_of (ordered_at y v C k F A D (placed_pair s w unranked C (some F) E o R O)))
       → Totals join e ts (nodes_of (placed_pair y v q B k F A D o)) → Beside join e ts (node_frames (on_left_at s w r C i E R O ∷ gs))
-      → Steps ts (mended_both recs' (top_place (ordered_at y v C k F A D (placed_pair s w unranked C (some F) E o R O))) s ts) gs (ordered_at y v C k F A D (placed_pair s w unranked C (some F) E o R O))
+      → Steps ts (mended_both recs' (top_place (ordered_at y v C k F A D (placed_pair s w unranked C (some F) E o R O))) (Some s) ts) gs (ordered_at y v C k F A D (placed_pair s w unranked C (some F) E o R O))
   rise_left recs recs' gs s w r C i E R O y v q B k F A D o ts h h' tot bes =
       let low : PlacedPairs K = placed_pair s w unranked C (some F) E o R O in
       let f : List (NodeFrame K) = node_frames (on_left_at s w r C i E R O ∷ gs) in
@@ -163,14 +153,14 @@ module _ {K : Type 0} (join : K → K → K) (e : K) where
       let oy = one_same y in
       let l = subst (NodesRecorded recs' (above (node_frames gs))) is h'.laid in
       let m1 = mends recs' ts y s w unranked C (some F) E (nodes_of o) (nodes_of R) (nodes_of O) (ordered_parts recs' (above (node_frames gs)) y v C k F (nodes_of A) (nodes_of D) (nodes_of low) l).0 (λ j. let n = h.once j in omega arith)
-      (high recs f t h s (omega arith)) bes.2.0 bes.0 tot.2 bes.1 bes.2.1 in
-      let ts1 : List K = mended join e recs' s ts in
+      bes.2.0 bes.0 tot.2 bes.1 bes.2.1 in
+      let ts1 : List K = mended join e recs' (Some s) ts in
       let keep : (z : PlacedNodes K) → ((j : ℕ) → occurs j z + (one j s + one j w) ≤ 1) → Totals join e ts z → Totals join e ts1 z = λ z apart g. totals_in (λ j. one j s + one j w) ts ts1 m1.beyond z (λ j c. let n = apart j in omega arith) g in
-      let m2 = mends_ordered recs' ts1 (above (node_frames gs)) y v C k F (nodes_of A) (nodes_of D) (nodes_of low) l (λ j. let n = h.once j in omega arith) (high recs f t h y (omega arith))
+      let m2 = mends_ordered recs' ts1 (above (node_frames gs)) y v C k F (nodes_of A) (nodes_of D) (nodes_of low) l (λ j. let n = h.once j in omega arith)
       (subst (λ n. y < n) (sym m1.beyond.long) tot.0.within) (subst (λ n. v < n) (sym m1.beyond.long) tot.1.0.within)
       (keep (nodes_of A) (λ j. let n = h.once j in omega arith) tot.1.1) (keep (nodes_of D) (λ j. let n = h.once j in omega arith) tot.1.2) m1.totals in
-      let ts2 : List K = mended join e recs' y ts1 in
-      subst (λ n. Steps ts (mended_both recs' n s ts) gs (ordered_at y v C k F A D low)) (sym (place_ordered y v C k F A D low))
+      let ts2 : List K = mended join e recs' (Some y) ts1 in
+      subst (λ n. Steps ts (mended_both recs' n (Some s) ts) gs (ordered_at y v C k F A D low)) (sym (place_ordered y v C k F A D low))
       record {
         totals = subst (Totals join e ts2) (sym is) m2.totals;
         beside = beside_in (λ j. one j y + one j v) ts1 ts2 m2.beyond (node_frames gs) (λ j z. let n = h.once j in omega arith)
@@ -182,7 +172,7 @@ module _ {K : Type 0} (join : K → K → K) (e : K) where
   rise_outer : (recs recs' : List Record) (gs : List (PairFrame K)) (s w : ℕ) (r : Rank) (C : Box) (i : Option Box) (E : Box) (L R : PlacedPairs K) (x v : ℕ) (q : Rank) (B : Box) (k : Option Box) (F : Box) (A D o : PlacedPairs K) (ts : List K)
       → LiesAmong recs (node_frames (on_outer_at s w r C i E L R ∷ gs)) (nodes_of (placed_pair x v q B k F A D o)) → LiesAmong recs' (node_frames gs) (nodes_of (ordered_at x v B i F (placed_pair s w r (outer (tree_in A)) i E L R A) D o))
       → Totals join e ts (nodes_of (placed_pair x v q B k F A D o)) → Beside join e ts (node_frames (on_outer_at s w r C i E L R ∷ gs))
-      → Steps ts (mended_both recs' (top_place (ordered_at x v B i F (placed_pair s w r (outer (tree_in A)) i E L R A) D o)) s ts) gs (ordered_at x v B i F (placed_pair s w r (outer (tree_in A)) i E L R A) D o)
+      → Steps ts (mended_both recs' (top_place (ordered_at x v B i F (placed_pair s w r (outer (tree_in A)) i E L R A) D o)) (Some s) ts) gs (ordered_at x v B i F (placed_pair s w r (outer (tree_in A)) i E L R A) D o)
   rise_outer recs recs' gs s w r C i E L R x v q B k F A D o ts h h' tot bes =
       let low : PlacedPairs K = placed_pair s w r (outer (tree_in A)) i E L R A in
       let f : List (NodeFrame K) = node_frames (on_outer_at s w r C i E L R ∷ gs) in
@@ -192,14 +182,14 @@ module _ {K : Type 0} (join : K → K → K) (e : K) where
       let ox = one_same x in
       let l = subst (NodesRecorded recs' (above (node_frames gs))) is h'.laid in
       let m1 = mends recs' ts v s w r (outer (tree_in A)) i E (nodes_of L) (nodes_of R) (nodes_of A) (ordered_parts recs' (above (node_frames gs)) x v B i F (nodes_of low) (nodes_of D) (nodes_of o) l).1 (λ j. let n = h.once j in omega arith)
-      (high recs f t h s (omega arith)) bes.0 bes.1.0.within bes.1.1 bes.1.2 tot.1.1 in
-      let ts1 : List K = mended join e recs' s ts in
+      bes.0 bes.1.0.within bes.1.1 bes.1.2 tot.1.1 in
+      let ts1 : List K = mended join e recs' (Some s) ts in
       let keep : (z : PlacedNodes K) → ((j : ℕ) → occurs j z + (one j s + one j w) ≤ 1) → Totals join e ts z → Totals join e ts1 z = λ z apart g. totals_in (λ j. one j s + one j w) ts ts1 m1.beyond z (λ j c. let n = apart j in omega arith) g in
-      let m2 = mends_ordered recs' ts1 (above (node_frames gs)) x v B i F (nodes_of low) (nodes_of D) (nodes_of o) l (λ j. let n = h.once j in omega arith) (high recs f t h x (omega arith))
+      let m2 = mends_ordered recs' ts1 (above (node_frames gs)) x v B i F (nodes_of low) (nodes_of D) (nodes_of o) l (λ j. let n = h.once j in omega arith)
       (subst (λ n. x < n) (sym m1.beyond.long) tot.0.within) (subst (λ n. v < n) (sym m1.beyond.long) tot.1.0.within)
       m1.totals (keep (nodes_of D) (λ j. let n = h.once j in omega arith) tot.1.2) (keep (nodes_of o) (λ j. let n = h.once j in omega arith) tot.2) in
-      let ts2 : List K = mended join e recs' x ts1 in
-      subst (λ n. Steps ts (mended_both recs' n s ts) gs (ordered_at x v B i F low D o)) (sym (place_ordered x v B i F low D o))
+      let ts2 : List K = mended join e recs' (Some x) ts1 in
+      subst (λ n. Steps ts (mended_both recs' n (Some s) ts) gs (ordered_at x v B i F low D o)) (sym (place_ordered x v B i F low D o))
       record {
         totals = subst (Totals join e ts2) (sym is) m2.totals;
         beside = beside_in (λ j. one j x + one j v) ts1 ts2 m2.beyond (node_frames gs) (λ j z. let n = h.once j in omega arith)
@@ -209,28 +199,27 @@ module _ {K : Type 0} (join : K → K → K) (e : K) where
 
   -- nothing rises
   stay_left : (recs recs' : List Record) (gs : List (PairFrame K)) (s w : ℕ) (r : Rank) (C : Box) (i : Option Box) (E : Box) (R O t : PlacedPairs K) (ts : List K) → LiesAmong recs (node_frames (on_left_at s w r C i E R O ∷ gs)) (nodes_of t)
-      → LiesAmong recs' (node_frames gs) (nodes_of (ordered_at s w C i E t R O)) → Totals join e ts (nodes_of t) → Beside join e ts (node_frames (on_left_at s w r C i E R O ∷ gs)) → Steps ts (mended_both recs' (top_place (ordered_at s w C i E t R O)) 65535 ts) gs (ordered_at s w C i E t R O)
+      → LiesAmong recs' (node_frames gs) (nodes_of (ordered_at s w C i E t R O)) → Totals join e ts (nodes_of t) → Beside join e ts (node_frames (on_left_at s w r C i E R O ∷ gs)) → Steps ts (mended_both recs' (top_place (ordered_at s w C i E t R O)) None ts) gs (ordered_at s w C i E t R O)
   stay_left recs recs' gs s w r C i E R O t ts h h' tot bes =
       let os = one_same s in
-      subst (λ n. Steps ts (mended_both recs' n 65535 ts) gs (ordered_at s w C i E t R O)) (sym (place_ordered s w C i E t R O))
-      (stay_ordered recs' gs s w C i E t R O ts h' (λ j. let n = h.once j in omega arith) (high recs (node_frames (on_left_at s w r C i E R O ∷ gs)) (nodes_of t) h s (omega arith)) bes.2.0 bes.0 tot bes.1 bes.2.1 bes.2.2)
+      subst (λ n. Steps ts (mended_both recs' n None ts) gs (ordered_at s w C i E t R O)) (sym (place_ordered s w C i E t R O))
+      (stay_ordered recs' gs s w C i E t R O ts h' (λ j. let n = h.once j in omega arith) bes.2.0 bes.0 tot bes.1 bes.2.1 bes.2.2)
 
   stay_right : (recs recs' : List Record) (gs : List (PairFrame K)) (s w : ℕ) (r : Rank) (C : Box) (i : Option Box) (E : Box) (L O t : PlacedPairs K) (ts : List K) → LiesAmong recs (node_frames (on_right_at s w r C i E L O ∷ gs)) (nodes_of t)
-      → LiesAmong recs' (node_frames gs) (nodes_of (ordered_at s w C i E L t O)) → Totals join e ts (nodes_of t) → Beside join e ts (node_frames (on_right_at s w r C i E L O ∷ gs)) → Steps ts (mended_both recs' (top_place (ordered_at s w C i E L t O)) 65535 ts) gs (ordered_at s w C i E L t O)
+      → LiesAmong recs' (node_frames gs) (nodes_of (ordered_at s w C i E L t O)) → Totals join e ts (nodes_of t) → Beside join e ts (node_frames (on_right_at s w r C i E L O ∷ gs)) → Steps ts (mended_both recs' (top_place (ordered_at s w C i E L t O)) None ts) gs (ordered_at s w C i E L t O)
   stay_right recs recs' gs s w r C i E L O t ts h h' tot bes =
       let os = one_same s in
-      subst (λ n. Steps ts (mended_both recs' n 65535 ts) gs (ordered_at s w C i E L t O)) (sym (place_ordered s w C i E L t O))
-      (stay_ordered recs' gs s w C i E L t O ts h' (λ j. let n = h.once j in omega arith) (high recs (node_frames (on_right_at s w r C i E L O ∷ gs)) (nodes_of t) h s (omega arith)) bes.2.0 bes.0 bes.1 tot bes.2.1 bes.2.2)
+      subst (λ n. Steps ts (mended_both recs' n None ts) gs (ordered_at s w C i E L t O)) (sym (place_ordered s w C i E L t O))
+      (stay_ordered recs' gs s w C i E L t O ts h' (λ j. let n = h.once j in omega arith) bes.2.0 bes.0 bes.1 tot bes.2.1 bes.2.2)
 
   stay_outer : (recs recs' : List Record) (gs : List (PairFrame K)) (s w : ℕ) (r : Rank) (C : Box) (i : Option Box) (E : Box) (L R t : PlacedPairs K) (ts : List K) → LiesAmong recs (node_frames (on_outer_at s w r C i E L R ∷ gs)) (nodes_of t)
-      → LiesAmong recs' (node_frames gs) (nodes_of (placed_pair s w r C i E L R t)) → Totals join e ts (nodes_of t) → Beside join e ts (node_frames (on_outer_at s w r C i E L R ∷ gs)) → Steps ts (mended_both recs' s 65535 ts) gs (placed_pair s w r C i E L R t)
+      → LiesAmong recs' (node_frames gs) (nodes_of (placed_pair s w r C i E L R t)) → Totals join e ts (nodes_of t) → Beside join e ts (node_frames (on_outer_at s w r C i E L R ∷ gs)) → Steps ts (mended_both recs' s None ts) gs (placed_pair s w r C i E L R t)
   stay_outer recs recs' gs s w r C i E L R t ts h h' tot bes =
       let os = one_same s in
-      let m = mends recs' ts (above (node_frames gs)) s w r C i E (nodes_of L) (nodes_of R) (nodes_of t) h'.laid (λ j. let n = h.once j in omega arith) (high recs (node_frames (on_outer_at s w r C i E L R ∷ gs)) (nodes_of t) h s (omega arith)) bes.0 bes.1.0.within bes.1.1 bes.1.2 tot in
-      subst (λ (l : List K). Steps ts l gs (placed_pair s w r C i E L R t)) (ap (mended join e recs' s) (sym (mended_none recs' ts)))
+      let m = mends recs' ts (above (node_frames gs)) s w r C i E (nodes_of L) (nodes_of R) (nodes_of t) h'.laid (λ j. let n = h.once j in omega arith) bes.0 bes.1.0.within bes.1.1 bes.1.2 tot in
       record {
         totals = m.totals;
-        beside = beside_in (λ j. one j s + one j w) ts (mended join e recs' s ts) m.beyond (node_frames gs) (λ j z. let n = h.once j in omega arith) bes.2;
+        beside = beside_in (λ j. one j s + one j w) ts (mended join e recs' (Some s) ts) m.beyond (node_frames gs) (λ j z. let n = h.once j in omega arith) bes.2;
         beyond = record { long = m.beyond.long; reads = λ j d z. m.beyond.reads j d (omega arith) };
       }
 
@@ -242,7 +231,7 @@ module _ {K : Type 0} (join : K → K → K) (e : K) where
       let t : PlacedPairs K = placed_pair y v q B k F A D o in
       let X : PlacedPairs K = ordered_at y v C k F A D (placed_pair s w unranked C (some F) E o R O) in
       let Y : PlacedPairs K = ordered_at s w C i E t R O in
-      (elim (made_before t R) as (λ b. LiesAmong recs' (node_frames gs) (nodes_of (cond b X Y)) → Steps ts (mended_both recs' (top_place (cond b X Y)) (cond b s 65535) ts) gs (cond b X Y)) [
+      (elim (made_before t R) as (λ b. LiesAmong recs' (node_frames gs) (nodes_of (cond b X Y)) → Steps ts (mended_both recs' (top_place (cond b X Y)) (cond b (Some s) None) ts) gs (cond b X Y)) [
         | true ↦ λ l. rise_left recs recs' gs s w r C i E R O y v q B k F A D o ts h l tot bes
         | false ↦ λ l. stay_left recs recs' gs s w r C i E R O t ts h l tot bes
       ]) h'
@@ -252,7 +241,7 @@ module _ {K : Type 0} (join : K → K → K) (e : K) where
       let t : PlacedPairs K = placed_pair x v q B k F A D o in
       let X : PlacedPairs K = ordered_at x v B i F (placed_pair s w r (outer (tree_in A)) i E L R A) D o in
       let Y : PlacedPairs K = placed_pair s w r C i E L R t in
-      (elim (made_before t R) as (λ b. LiesAmong recs' (node_frames gs) (nodes_of (cond b X Y)) → Steps ts (mended_both recs' (top_place (cond b X Y)) (cond b s 65535) ts) gs (cond b X Y)) [
+      (elim (made_before t R) as (λ b. LiesAmong recs' (node_frames gs) (nodes_of (cond b X Y)) → Steps ts (mended_both recs' (top_place (cond b X Y)) (cond b (Some s) None) ts) gs (cond b X Y)) [
         | true ↦ λ l. rise_outer recs recs' gs s w r C i E L R x v q B k F A D o ts h l tot bes
         | false ↦ λ l. stay_outer recs recs' gs s w r C i E L R t ts h l tot bes
       ]) h'

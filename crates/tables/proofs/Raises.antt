@@ -1,5 +1,5 @@
 -- The whole rise: the plan, and the entries of all its nodes.
-use Rattle.std.proofs.Common.{◌≡◌, ℕ, zero, suc, ◌+◌, ◌-◌, ◌<◌, ◌≤◌, cond, ◌≢◌, List, [], ◌∷◌, length, sym, refl, ap, ◌∙◌, subst, arith}
+use Rattle.std.proofs.Common.{◌≡◌, ℕ, zero, suc, ◌+◌, ◌-◌, ◌<◌, ◌≤◌, cond, ◌≢◌, List, [], ◌∷◌, length, sym, refl, ap, ◌∙◌, subst, arith, Some}
 use Rattle.std.proofs.lemmas.Bool.{eq-eqb, ne_eqb}
 use Rattle.records.specs.declared.record.Record.{Record}
 use Rattle.records.specs.PlacedNodes.{PlacedNodes, leaf_at, node_at, place_of, occurs, LiesIn, NodesRecorded, record_of, above}
@@ -32,15 +32,15 @@ module _ {K : Type 0} (join : K → K → K) (e : K) where
       ap (λ b. cond b (tables recs ts s) (run n v.table (mended_both join e v.table v.top v.low ts) v.top)) (ne_eqb (at recs s).parent 65535 far)
 
   -- one turn of the loop, with d behind it
-  pub turns : (n d : ℕ) (recs recs' : List Record) (ts ts1 ts2 : List K) (s top low : ℕ) (r : Record) → d < n → r ≡ at recs s → r.parent ≢ 65535 → recs' ≡ (settled_in recs s).table → top ≡ (settled_in recs s).top → low ≡ (settled_in recs s).low
-      → ts1 ≡ mended join e recs' low ts → ts2 ≡ mended join e recs' top ts1 → run (n - (d + 1)) recs' ts2 top ≡ run (n - d) recs ts s
+  pub turns : (n d : ℕ) (recs recs' : List Record) (ts ts1 ts2 : List K) (s top : ℕ) (low : Rattle.std.specs.Prelude.Option ℕ) (r : Record) → d < n → r ≡ at recs s → r.parent ≢ 65535 → recs' ≡ (settled_in recs s).table → top ≡ (settled_in recs s).top → low ≡ (settled_in recs s).low
+      → ts1 ≡ mended join e recs' low ts → ts2 ≡ mended join e recs' (Some top) ts1 → run (n - (d + 1)) recs' ts2 top ≡ run (n - d) recs ts s
   turns n d recs recs' ts ts1 ts2 s top low r go is far er et el e1 e2 =
       let left : n - d ≡ suc (n - (d + 1)) = omega arith in
       let m : ℕ = n - (d + 1) in
-      ap (λ (l : List K). run m recs' l top) (e2 ∙ ap (mended join e recs' top) e1)
+      ap (λ (l : List K). run m recs' l top) (e2 ∙ ap (mended join e recs' (Some top)) e1)
       ∙ ap (λ (l : List Record). run m l (mended_both join e l top low ts) top) er
       ∙ ap (λ (p : ℕ). run m (settled_in recs s).table (mended_both join e (settled_in recs s).table p low ts) p) et
-      ∙ ap (λ (p : ℕ). run m (settled_in recs s).table (mended_both join e (settled_in recs s).table (settled_in recs s).top p ts) (settled_in recs s).top) el
+      ∙ ap (λ p. run m (settled_in recs s).table (mended_both join e (settled_in recs s).table (settled_in recs s).top p ts) (settled_in recs s).top) el
       ∙ sym (goes m recs ts s (λ z. far (ap (λ (v : Record). v.parent) is ∙ z))) ∙ ap (λ (k : ℕ). run k recs ts s) (sym left)
 
   root_parent : (p : ℕ) (t : PlacedNodes K) → (record_of p t).parent ≡ p
@@ -92,7 +92,7 @@ module _ {K : Type 0} (join : K → K → K) (e : K) where
       let turn : run (suc n) recs ts (top_place t) ≡ run n v.table ts2 (top_place u) =
       goes n recs ts (top_place t) far
       ∙ ap (λ (k : ℕ). run n v.table (mended_both join e v.table k v.low ts) k) m.top
-      ∙ ap (λ (k : ℕ). run n v.table (mended_both join e v.table (top_place u) k ts) (top_place u)) m.low in
+      ∙ ap (λ k. run n v.table (mended_both join e v.table (top_place u) k ts) (top_place u)) m.low in
       let all : (j : ℕ) → occurs j (nodes_of (put_in_all gs u)) ≡ occurs j (nodes_of (put_in_all gs (put_in g t))) = λ j. let a = in_path gs u j in let b = in_path gs (put_in g t) j in let c = places_settle g t j in omega arith in
       let wide : (j : ℕ) → occurs j (nodes_of (put_in_all gs (put_in g t))) ≡ occurs j (nodes_of t) + occurs_around j (node_frames (g ∷ gs)) = λ j. in_path (g ∷ gs) t j in
       subst (Raised recs ts (g ∷ gs) t) (sym turn)

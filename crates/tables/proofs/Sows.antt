@@ -1,5 +1,5 @@
 -- A new pair at fresh places, with its entries.
-use Rattle.std.proofs.Common.{◌≡◌, ℕ, ◌+◌, ◌<◌, ◌≤◌, ◌≢◌, List, length, set, sym, refl, ◌∙◌, subst, arith, length-set, get_or-set_other}
+use Rattle.std.proofs.Common.{◌≡◌, ℕ, ◌+◌, ◌<◌, ◌≤◌, List, length, set, sym, refl, ◌∙◌, subst, arith, length-set, get_or-set_other, Some}
 use Rattle.records.specs.declared.record.Record.{Record}
 use Rattle.records.specs.declared.places.FourPlaces.{FourPlaces}
 use Rattle.place.specs.Boxes.{Box, smallest, half}
@@ -37,7 +37,7 @@ module _ {K : Type 0} (join : K → K → K) (e : K) where
   pub sows : (recs : List Record) (ts : List K) (f : List (NodeFrame K)) (i : ℕ) (C : Box) (c : Content K) (p : Reading K) (n : FourPlaces) → LiesAmong recs f (leaf_at i C c) → Free recs (placed_leaf i C c) n
       → ((j : ℕ) → four j n + (one j i + occurs_around j f) ≤ 1) → (smallest (extent c) (point_of p)).depth < 32
       → n.shrink < length ts → n.split < length ts → n.reading < length ts → n.outer < length ts → Totals join e ts (leaf_at i C c) → Beside join e ts f
-      → Sows recs (planted recs i (rank_of p) n) ts (mended join e (planted recs i (rank_of p) n) n.shrink (sown n p.tally ts)) f i n (planted_at n i C c p)
+      → Sows recs (planted recs i (rank_of p) n) ts (mended join e (planted recs i (rank_of p) n) (Some n.shrink) (sown n p.tally ts)) f i n (planted_at n i C c p)
   sows recs ts f i C c p n h free once small ls lw lr lo tot bes =
       let E : Box = smallest (extent c) (point_of p) in
       let recs' : List Record = planted recs i (rank_of p) n in
@@ -53,15 +53,14 @@ module _ {K : Type 0} (join : K → K → K) (e : K) where
       let qi = once i in
       let qr = once n.reading in
       let qo = once n.outer in
-      let far : n.shrink ≢ 65535 = λ z. let l = free.low n.shrink (omega arith) in absurd (omega arith) in
       let leaf' : Has ts2 i (tally_of join e (leaf (half E (extent c)) c)) =
       subst (λ x. Has ts2 i x) (leaf_sum C (half E (extent c)) c) (bears_other join e ts1 n.outer e i _ (omega arith) (bears_other join e ts n.reading p.tally i _ (omega arith) tot)) in
       let read' : Has ts2 n.reading p.tally = bears_other join e ts1 n.outer e n.reading _ (omega arith) (bears_same join e ts n.reading p.tally lr) in
       let out' : Has ts2 n.outer e = bears_same join e ts1 n.outer e (simp length-set lo) in
       let len : length ts2 ≡ length ts = length-set ts1 n.outer e ∙ length-set ts n.reading p.tally in
       let m = mends_ordered join e recs' ts2 (above f) n.shrink n.split C (box_in c) E (leaf_at i (half E (extent c)) c) (leaf_at n.reading (half E (point_of p)) (reading p)) (leaf_at n.outer C (box E))
-      (subst (NodesRecorded recs' (above f)) is focus'.laid) (λ j. let q = once j in omega arith) far (subst (λ k. n.shrink < k) (sym len) ls) (subst (λ k. n.split < k) (sym len) lw) leaf' read' out' in
-      let ts3 : List K = mended join e recs' n.shrink ts2 in
+      (subst (NodesRecorded recs' (above f)) is focus'.laid) (λ j. let q = once j in omega arith) (subst (λ k. n.shrink < k) (sym len) ls) (subst (λ k. n.split < k) (sym len) lw) leaf' read' out' in
+      let ts3 : List K = mended join e recs' (Some n.shrink) ts2 in
       let first' : Beyond join e (λ j. four j n) ts ts2 = record {
         long = len;
         reads = λ j d z. get_or-set_other ts1 n.outer j e d (differ j n.outer (omega arith)) ∙ get_or-set_other ts n.reading j p.tally d (differ j n.reading (omega arith));

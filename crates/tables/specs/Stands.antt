@@ -100,7 +100,7 @@ Keeps {K} join e s s' c r = (cs : List (Call K)) → Stands join e s (roll join 
 abbrev pub grown_tables : {K : Type 0} → (K → K → K) → K → ℕ → List Record → List K → ℕ → ℕ → ℕ → K → FourPlaces → Tables K
 grown_tables join e N recs ts i k priority v n =
     let recs1 : List Record = planted recs i (record { priority = priority; code = k }) n in
-    raised join e N recs1 (mended join e recs1 n.shrink (slice_set (slice_set ts n.reading v) n.outer e)) n.shrink
+    raised join e N recs1 (mended join e recs1 (Some n.shrink) (slice_set (slice_set ts n.reading v) n.outer e)) n.shrink
 
 -- The state after the first reading: it is the tree, at the next free place.
 abbrev pub started : {K : Type 0} → State K → ℕ → ℕ → K → State K

@@ -2,7 +2,7 @@
 --   Has, Totals                the entry at a place, and every entry of a tree
 --   renewed, climbed, mended   entries made anew
 --   Tables, tables, raised     both tables after the steps of a rise
-use Rattle.std.specs.Prelude.{◌≡◌, ℕ, zero, suc, ◌<◌, cond, List, length, ◌==◌, slice_index_or, slice_set}
+use Rattle.std.specs.Prelude.{◌≡◌, ℕ, zero, suc, ◌<◌, cond, List, length, ◌==◌, slice_index_or, slice_set, Option, None, Some}
 use Rattle.records.specs.declared.record.Record.{Record}
 use Rattle.quadtreap.specs.Walk.{tally_of}
 use Rattle.records.specs.PlacedNodes.{PlacedNodes, leaf_at, node_at, unplaced}
@@ -28,12 +28,13 @@ climbed join e recs zero i ts = ts
 climbed join e recs (suc n) i ts =
     cond (i == 65535) ts (climbed join e recs n (at recs i).parent (renewed join e ts i (at recs i).first (at recs i).second))
 
--- The two entries of the pair at x are renewed, where 65535 is no pair.
-abbrev pub mended : {K : Type 0} → (K → K → K) → K → List Record → ℕ → List K → List K
-mended join e recs x ts =
+-- The two entries of the pair at x are renewed, if there is a pair.
+abbrev pub mended : {K : Type 0} → (K → K → K) → K → List Record → Option ℕ → List K → List K
+mended join e recs None ts = ts
+mended join e recs (Some x) ts =
     let rx : Record = at recs x in
     let rw : Record = at recs rx.first in
-    cond (x == 65535) ts (renewed join e (renewed join e ts rx.first rw.first rw.second) x rx.first rx.second)
+    renewed join e (renewed join e ts rx.first rw.first rw.second) x rx.first rx.second
 
 -- Both tables, and the place of the node at the top.
 pub record Tables (K : Type 0) : Type 0 where
@@ -51,4 +52,4 @@ abbrev pub raised : {K : Type 0} → (K → K → K) → K → ℕ → List Reco
 raised join e zero recs ts s = tables recs ts s
 raised join e (suc n) recs ts s =
     let v : Rise = settled_in recs s in
-    cond ((at recs s).parent == 65535) (tables recs ts s) (raised join e n v.table (mended join e v.table v.top (mended join e v.table v.low ts)) v.top)
+    cond ((at recs s).parent == 65535) (tables recs ts s) (raised join e n v.table (mended join e v.table (Some v.top) (mended join e v.table v.low ts)) v.top)

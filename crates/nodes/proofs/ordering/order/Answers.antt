@@ -2,8 +2,8 @@ use Rattle.std.proofs.Common.{rules}
 use Rattle.nodes.proofs.ordering.order.Goals as goal
 use Rattle.records.proofs.PromiseLaws.{ordered_lifts}
 
-pub returns-then-rs-le32 : goal.returns-then-rs-le32
-returns-then-rs-le32 g c = record { table = search rules; stands = ordered_lifts g.row.K.Denot c.args.records.now _ c.args.s (search rules) }
+pub returns-then-is_some : goal.returns-then-is_some
+returns-then-is_some g c = record { table = search rules; stands = ordered_lifts g.row.K.Denot c.args.records.now _ c.args.s (search rules) }
 
 pub returns-then-ranks_before : goal.returns-then-ranks_before
 returns-then-ranks_before g c = record { table = search rules; stands = ordered_lifts g.row.K.Denot c.args.records.now _ c.args.s (search rules) }

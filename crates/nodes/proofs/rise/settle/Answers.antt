@@ -1,4 +1,4 @@
-use Rattle.std.proofs.Common.{◌≡◌, List, sym, ap, ◌∙◌, rules}
+use Rattle.std.proofs.Common.{◌≡◌, List, sym, ap, ◌∙◌, rules, None}
 use Rattle.records.specs.declared.record.Record.{Record}
 use Rattle.nodes.proofs.rise.settle.Goals as goal
 use Rattle.nodes.proofs.rise.settle.Goals.{else-rp-s-via-then-rp-s+else-made_earlier-2, else-rp-s-via-else-rp-s}
@@ -41,7 +41,7 @@ returns g c =
     let s = c.args.s in
     let recs = c.args.records.now in
     let rp = c.read-rp.result in
-    let e : settled_in recs s ≡ risen (ordered_in recs rp.parent) rp.parent 65535 =
+    let e : settled_in recs s ≡ risen (ordered_in recs rp.parent) rp.parent None =
     elim c.else-rp-s.branch [
       | else-rp-s-via-then-rp-s+else-made_earlier-2 w ↦
           under_left recs s c.read-up.result rp c.read-up.ensures.value c.read-rp.ensures.value (search rules) (sym w.made_earlier-then-rp-s.ensures.value ∙ w.if-made_earlier-2.false)
