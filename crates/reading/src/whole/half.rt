@@ -57,6 +57,7 @@ impl HalfReading {
     }
 
     /// Ends the reading without a root. It answers the motor's count and time, so that nothing is lost.
+    // A struct for these two numbers would be no plainer: the callers let them go.
     pub fn give_up(self) -> (u16, u32)
         ensures value { result ≡ (self.motor, self.time) }
     {
