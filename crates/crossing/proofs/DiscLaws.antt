@@ -1,5 +1,5 @@
 -- A rectangle lies to a disc as its nearest and its farthest place do.
-use Rattle.std.proofs.Common.{◌≡◌, ℕ, ◌+◌, ◌-◌, ◌*◌, ◌^◌, ◌<◌, ◌≤◌, min, max, true, ltb, leb, sym, ◌∙◌, subst, ap₂, inl, inr, add-le-add, arith}
+use Rattle.std.proofs.Common.{◌≡◌, ℕ, ◌+◌, ◌-◌, ◌*◌, ◌^◌, ◌<◌, ◌≤◌, min, max, true, ltb, leb, sym, ◌∙◌, subst, ap₂, inl, inr, add-le-add, le_trans, arith}
 use Rattle.std.proofs.lemmas.Bool.{cases_lt, leb-true, lt-ltb, le-ltb, le-leb, lt-leb, not_from_true, not_from_false}
 use Rattle.place.specs.Boxes.{between}
 use Rattle.place.proofs.SideLaws.{between_parts, parts_between}
@@ -83,10 +83,7 @@ module _ (cm cr radius lm hm lr hr : ℕ) (motors : lm ≤ hm) (roots : lr ≤ h
       ]
     where
       all : (m r : ℕ) → region m r ≡ true → reaches ≤ radius * radius → within cm cr radius m r ≡ true
-      all m r e l = le-leb _ _ (chain (reaches_most m r e) l)
-        where
-          chain : {x y z : ℕ} → x ≤ y → y ≤ z → x ≤ z
-          chain p q = omega arith
+      all m r e l = le-leb _ _ (le_trans (reaches_most m r e) l)
 
       here : radius * radius < reaches → Found region (beyond (within cm cr radius))
       here l =

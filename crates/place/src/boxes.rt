@@ -50,6 +50,7 @@ impl PlaceBox {
     }
 
     /// Whether the box contains a code.
+    #[tactic(auto, using(crate::proofs::SmallestLaws::holds_xor, std::proofs::lemmas::Nat::xor_lt))]
     pub fn holds(self, code: u32) -> bool
         ensures value { result ≡ holds_code (box_of self) code }
     {
@@ -99,6 +100,7 @@ impl PlaceBox {
     }
 
     /// The rectangle whose places are exactly those of the box.
+    #[tactic(auto, using(crate::proofs::SideLaws::last_motor, crate::proofs::SideLaws::last_root, crate::proofs::SideLaws::box_places))]
     pub fn rectangle(self) -> Rectangle
         ensures covers { Covers (box_of self) result }
     {
