@@ -1,90 +1,126 @@
 -- Fields are read one after another.
-use Rattle.std.proofs.Common.{◌≡◌, ℕ, ◌+◌, ◌^◌, ◌<◌, ◌≤◌, List, [], ◌∷◌, ◌++◌, length, get_or, take, drop, set, Some, None, decimal, Option, sym, ap, ◌∙◌, append_assoc, append-nil, arith, Bor, MatchOption}
-use Rattle.std.proofs.lemmas.List.{take_more_set, take_all, drop_more, drop_all, length-set}
-use Rattle.std.proofs.lemmas.Str.Pattern.{IsSplitOnceResult, split_after, split_parts}
-use Rattle.pamtext.specs.Fields.{separated, Spells}
+use Rattle.std.proofs.Common.{◌≡◌, ℕ, suc, ◌+◌, ◌^◌, ◌<◌, ◌≤◌, eqb, false, ◌==◌, List, [], ◌∷◌, ◌++◌, length, get_or, take, drop, set, map, Some, None, decimal, Option, sym, refl, ap, ◌∙◌, append_assoc, append-nil, arith, Bor}
+use Rattle.std.specs.Iterator.{AlwaysYields}
+use Rattle.std.specs.List.{All, slice_split, join_with_byte}
+use Rattle.std.proofs.lemmas.Bool.{ne_eqb}
+use Rattle.std.proofs.lemmas.List.{take_more_set, take_all, drop_more, drop_all}
+use Rattle.std.proofs.lemmas.List.Elements.{All-nil, All-cons}
+use Rattle.std.proofs.lemmas.List.Splits.{slice_split_none, slice_split_at, join_with_byte-slice_split}
+use Rattle.pamtext.specs.Fields.{separated, Within, Spells}
 use Rattle.pamtext.proofs.NumberLaws.{only_digits}
+use Rattle.pamtext.proofs.Yielding.{next_of, none_of}
 
--- What a text of two fields or more has before its first comma, and after it.
-abbrev pub FirstField : ℕ → List ℕ → List ℕ → List ℕ → Type 0
-FirstField m more word after = ((n : ℕ) × (n ≤ m) × (word ≡ decimal n)) × ((ns : List ℕ) × Spells more after ns)
+-- Decimals, joined by commas, are numbers separated.
+joined : (ns : List ℕ) → join_with_byte 44 (map decimal ns) ≡ separated ns
+joined [] = refl
+joined (n ∷ []) = sym (append-nil (decimal n))
+joined (n ∷ m ∷ ns) = ap (λ x. decimal n ++ (44 ∷ x)) (joined (m ∷ ns))
 
--- A text of two fields or more is cut at its first comma into its first field and the others.
-pub first_field : {m k : ℕ} {more rest : List ℕ} (ns : List ℕ) (r : Option (Bor (List ℕ) × Bor (List ℕ)))
-    → m < 2 ^ 64 → Spells (m ∷ k ∷ more) rest ns → IsSplitOnceResult 44 rest r
-    → MatchOption r ⊥ (λ x. FirstField m (k ∷ more) x.0.now x.1.now)
-first_field [] r small s h = absurd s.within
-first_field (n ∷ []) r small s h = absurd s.within.1
-first_field {rest = rest} (n ∷ n' ∷ ns) None small s h =
-    split_after 44 rest (decimal n) (separated (n' ∷ ns)) None h (omega arith) s.text (only_digits n 44 (omega (arith, s.within.0)) (omega arith))
-first_field {rest = rest} (n ∷ n' ∷ ns) (Some x) small s h =
-    let cut = split_after 44 rest (decimal n) (separated (n' ∷ ns)) (Some x) h (omega arith) s.text (only_digits n 44 (omega (arith, s.within.0)) (omega arith)) in
-    ((n, s.within.0, cut.0), (n' ∷ ns, record { within = s.within.1; text = cut.1 }))
+-- No byte is a comma.
+lacks : (bs : List ℕ) → ((i : ℕ) → i < length bs → get_or bs i 0 ≡ 44 → ⊥) → All (λ b. eqb b 44 ≡ false) bs
+lacks [] h = All-nil (λ b. eqb b 44 ≡ false)
+lacks (b ∷ bs) h = All-cons (λ x. eqb x 44 ≡ false) b bs (ne_eqb b 44 (h 0 (omega arith))) (lacks bs (λ i l. h (suc i) (omega arith)))
 
--- A text of one field is that field.
-pub last_field : {m : ℕ} {rest : List ℕ} (ns : List ℕ) → Spells (m ∷ []) rest ns → (n : ℕ) × (n ≤ m) × (rest ≡ decimal n)
-last_field [] s = absurd s.within
-last_field (n ∷ []) s = (n, s.within.0, s.text ∙ append-nil (decimal n))
-last_field (n ∷ n' ∷ ns) s = absurd s.within.1
+-- Numbers that are separated are cut at the commas into their decimals.
+parted : (m : ℕ) (ms : List ℕ) (n : ℕ) (ns : List ℕ) → ((i : ℕ) → get_or (m ∷ ms) i 0 < 2 ^ 64) → Within (m ∷ ms) (n ∷ ns)
+    → slice_split (λ b. b == 44) (separated (n ∷ ns)) ≡ map decimal (n ∷ ns)
+parted m ms n [] small within =
+    ap (slice_split (λ b. b == 44)) (append-nil (decimal n))
+    ∙ slice_split_none (λ b. b == 44) (decimal n) (lacks (decimal n) (only_digits n 44 (omega (arith, within.0, small 0)) (omega arith)))
+parted m [] n (k ∷ ns) small within = absurd within.1
+parted m (m' ∷ ms) n (k ∷ ns) small within =
+    slice_split_at (λ b. b == 44) (decimal n) 44 (separated (k ∷ ns)) (lacks (decimal n) (only_digits n 44 (omega (arith, within.0, small 0)) (omega arith))) refl
+    ∙ ap (λ x. decimal n ∷ x) (parted m' ms k ns (λ i. small (suc i)) within.1)
 
--- A field and a comma before a text of fields make a text of one field more.
-pub one_more : {m n k : ℕ} {more word after rest : List ℕ} (ns : List ℕ)
-    → rest ≡ word ++ (44 ∷ after) → word ≡ decimal n → n ≤ m → Spells (k ∷ more) after ns → Spells (m ∷ k ∷ more) rest (n ∷ ns)
-one_more [] e f h s = absurd s.within
-one_more (n' ∷ ns) e f h s = record { within = (h, s.within); text = let g = s.text in cc }
+-- The words are the decimals of numbers within their largest.
+record Fields (largest : List ℕ) (words : List (List ℕ)) (ns : List ℕ) : Type 0 where
+  within : Within largest ns
+  spelled : words ≡ map decimal ns
 
--- After i fields: whatever fields the rest spells, all fields are those that were read and these, and the whole text spells fields only if the rest does.
-pub record Read (largest text : List ℕ) (i : ℕ) (numbers rest : List ℕ) : Type 0 where
-  pub onward : (ns : List ℕ) → Spells (drop i largest) rest ns → Spells largest text (take i numbers ++ ns)
-  pub back : (ns : List ℕ) → Spells largest text ns → (ms : List ℕ) × Spells (drop i largest) rest ms
+-- The first word is the first number, and the others are the others.
+one : {m : ℕ} {ms : List ℕ} {w : List ℕ} {ws : List (List ℕ)} (ns : List ℕ) → Fields (m ∷ ms) (w ∷ ws) ns
+    → ((n : ℕ) × (n ≤ m) × (w ≡ decimal n)) × ((ks : List ℕ) × Fields ms ws ks)
+one [] f = absurd f.within
+one (n ∷ ns) f = let e = f.spelled in ((n, f.within.0, cc), (ns, record { within = f.within.1; spelled = cc }))
 
-module _ {largest text : List ℕ} {i : ℕ} {numbers rest : List ℕ} (read : Read largest text i numbers rest) where
-  -- The whole text spells no fields if the rest spells none.
-  pub refuses : ((ns : List ℕ) → Spells (drop i largest) rest ns → ⊥) → (ns : List ℕ) → Spells largest text ns → ⊥
-  refuses none ns s = let left = read.back ns s in none left.0 left.1
+-- There is a word for each largest number.
+wordless : {m : ℕ} {ms : List ℕ} (ns : List ℕ) → Fields (m ∷ ms) [] ns → ⊥
+wordless [] f = f.within
+wordless (n ∷ ns) f = let e = f.spelled in cc
 
-  -- Where two fields or more are to come, one is read by a cut at the first comma.
-  module _ (two : i + 1 < length largest) (small : get_or largest i 0 < 2 ^ 64) where
-    here : drop i largest ≡ get_or largest i 0 ∷ drop (i + 1) largest
-    here = drop_more largest i 0 (omega arith)
+-- There is no other word.
+beyond : {w : List ℕ} {ws : List (List ℕ)} (ns : List ℕ) → Fields [] (w ∷ ws) ns → ⊥
+beyond [] f = let e = f.spelled in cc
+beyond (n ∷ ns) f = f.within
 
-    next : drop (i + 1) largest ≡ get_or largest (i + 1) 0 ∷ drop (i + 1 + 1) largest
-    next = drop_more largest (i + 1) 0 two
+-- Where numbers are asked for, a text that spells them is cut into their decimals.
+words_of : (largest ns : List ℕ) → 0 < length largest → ((i : ℕ) → get_or largest i 0 < 2 ^ 64) → Within largest ns
+    → slice_split (λ b. b == 44) (separated ns) ≡ map decimal ns
+words_of [] ns some small within = absurd (omega arith)
+words_of (m ∷ ms) [] some small within = absurd within
+words_of (m ∷ ms) (n ∷ ns) some small within = parted m ms n ns small within
 
-    -- No comma is left.
-    pub no_comma : IsSplitOnceResult 44 rest None → (ns : List ℕ) → Spells largest text ns → ⊥
-    no_comma h = refuses (λ ns s. first_field ns None small (rw (here, next) at s) h)
+-- After i fields: whatever fields the words that come are, all fields are those that were read and these, and the whole text spells fields only if those words are some.
+pub record Read {S : Type 0} (steps : S → Option (Bor (List ℕ)) → S → Type 0) (s : S) (largest text : List ℕ) (i : ℕ) (numbers : List ℕ) : Type 0 where
+  left : List (List ℕ)
+  comes : AlwaysYields steps (λ x. x.now) s left
+  onward : (ns : List ℕ) → Fields (drop i largest) left ns → Spells largest text (take i numbers ++ ns)
+  back : (ns : List ℕ) → Spells largest text ns → (ms : List ℕ) × Fields (drop i largest) left ms
 
-    module _ (word after : Bor (List ℕ)) (h : IsSplitOnceResult 44 rest (Some (word, after))) where
-      cut : (ns : List ℕ) → Spells (drop i largest) rest ns → FirstField (get_or largest i 0) (drop (i + 1) largest) word.now after.now
-      cut ns s = rw next (first_field ns (Some (word, after)) small (rw (here, next) at s) h)
+-- At first all fields are to come.
+pub read_none : {S : Type 0} {steps : S → Option (Bor (List ℕ)) → S → Type 0} {s : S} {largest text : List ℕ} (numbers : List ℕ)
+    → 0 < length largest → ((i : ℕ) → get_or largest i 0 < 2 ^ 64) → AlwaysYields steps (λ x. x.now) s (slice_split (λ b. b == 44) text)
+    → Read steps s largest text 0 numbers
+read_none {largest = largest} {text = text} numbers some small comes = record {
+  left = slice_split (λ b. b == 44) text;
+  comes = comes;
+  onward = λ ns f. record { within = f.within; text = sym (join_with_byte-slice_split 44 text) ∙ ap (join_with_byte 44) f.spelled ∙ joined ns };
+  back = λ ns s. (ns, record { within = s.within; spelled = ap (slice_split (λ b. b == 44)) s.text ∙ words_of largest ns some small s.within });
+}
 
-      -- The word before the comma is no number that fits.
+module _ {S : Type 0} {steps : S → Option (Bor (List ℕ)) → S → Type 0} {s : S} {largest text : List ℕ} {i : ℕ} {numbers : List ℕ}
+    (read : Read steps s largest text i numbers) (t : S) where
+  here : i < length largest → drop i largest ≡ get_or largest i 0 ∷ drop (i + 1) largest
+  here inside = drop_more largest i 0 inside
+
+  -- No word comes where one is asked for.
+  pub no_word : i < length largest → steps s None t → (ns : List ℕ) → Spells largest text ns → ⊥
+  no_word inside step ns spells =
+      let none = none_of steps (λ x. x.now) s t read.left read.comes step in
+      let left = read.back ns spells in
+      wordless left.0 (rw (here inside, none) at left.1)
+
+  -- No word comes where none is asked for.
+  pub reads_all : length largest ≤ i → length numbers ≤ i → steps s None t → Spells largest text numbers
+  reads_all all filled step =
+      let none = none_of steps (λ x. x.now) s t read.left read.comes step in
+      let whole = read.onward [] (rw (drop_all i largest all, none) (record { within = tt; spelled = refl })) in
+      rw (append-nil, take_all i numbers filled) at whole
+
+  module _ (word : Bor (List ℕ)) (step : steps s (Some word) t) where
+    first : (ys : List (List ℕ)) × (read.left ≡ word.now ∷ ys) × AlwaysYields steps (λ x. x.now) t ys
+    first = next_of steps (λ x. x.now) s t word read.left read.comes step
+
+    -- A word comes where none is asked for.
+    pub too_many : length largest ≤ i → (ns : List ℕ) → Spells largest text ns → ⊥
+    too_many all ns spells = let left = read.back ns spells in beyond left.0 (rw (drop_all i largest all, first.1) at left.1)
+
+    module _ (inside : i < length largest) where
+      -- The word that comes is no number that fits.
       pub no_number : ((n : ℕ) → n ≤ get_or largest i 0 → word.now ≡ decimal n → ⊥) → (ns : List ℕ) → Spells largest text ns → ⊥
-      no_number none = refuses (λ ns s. let first = (cut ns s).0 in none first.0 first.1 first.2)
+      no_number none ns spells =
+          let left = read.back ns spells in
+          let number = (one left.0 (rw (here inside, first.1) at left.1)).0 in
+          none number.0 number.1 number.2
 
       -- One field more was read.
-      pub reads_more : (n : ℕ) → i < length numbers → n ≤ get_or largest i 0 → word.now ≡ decimal n → Read largest text (i + 1) (set numbers i n) after.now
-      reads_more n inside fits is =
-          record {
-            onward = λ ns s.
-                let parts = split_parts 44 rest (Some (word, after)) h (omega arith) in
-                let more = one_more ns parts.0 is fits (rw next at s) in
-                rw (take_more_set numbers i n inside, append_assoc) (read.onward (n ∷ ns) (rw (here, next) more));
-            back = λ ns s. let left = read.back ns s in (cut left.0 left.1).1;
-          }
-
-  -- Where one field is to come, it is the rest.
-  module _ (one : i + 1 ≡ length largest) where
-    only : drop i largest ≡ get_or largest i 0 ∷ []
-    only = drop_more largest i 0 (omega arith) ∙ ap (λ x. get_or largest i 0 ∷ x) (drop_all (i + 1) largest (omega arith))
-
-    -- The rest is no number that fits.
-    pub no_last : ((n : ℕ) → n ≤ get_or largest i 0 → rest ≡ decimal n → ⊥) → (ns : List ℕ) → Spells largest text ns → ⊥
-    no_last none = refuses (λ ns s. let last = last_field ns (rw only at s) in none last.0 last.1 last.2)
-
-    -- The last field was read.
-    pub reads_last : (n : ℕ) → length numbers ≡ length largest → n ≤ get_or largest i 0 → rest ≡ decimal n → Spells largest text (set numbers i n)
-    reads_last n long fits is =
-        let all = read.onward (n ∷ []) (rw only (record { within = (fits, tt); text = is ∙ sym (append-nil (decimal n)) })) in
-        rw (sym (take_all (i + 1) (set numbers i n) (rw length-set (omega arith))), take_more_set numbers i n (omega arith)) all
+      pub reads_more : (n : ℕ) → i < length numbers → n ≤ get_or largest i 0 → word.now ≡ decimal n → Read steps t largest text (i + 1) (set numbers i n)
+      reads_more n room fits is = record {
+        left = first.0;
+        comes = first.2;
+        onward = λ ns f.
+            let field : Fields (get_or largest i 0 ∷ drop (i + 1) largest) (word.now ∷ first.0) (n ∷ ns) =
+            record { within = (fits, f.within); spelled = let e = f.spelled in cc } in
+            rw (take_more_set numbers i n room, append_assoc) (read.onward (n ∷ ns) (rw (here inside, first.1) field));
+        back = λ ns spells. let left = read.back ns spells in (one left.0 (rw (here inside, first.1) at left.1)).1;
+      }

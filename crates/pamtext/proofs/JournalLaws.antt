@@ -13,6 +13,7 @@ use Rattle.pamtext.specs.declared.fault.TextFault.TheVariants.{Line, NoMemory}
 use Rattle.pamtext.specs.Texts.{Says}
 use Rattle.pamtext.specs.Lines.{lines_of, trimmed, passed, Tells}
 use Rattle.pamtext.specs.Lines.Tells.{nothing, passes, says}
+use Rattle.pamtext.proofs.Yielding.{next_of, none_of}
 use Rattle.pamtext.specs.Journals.{journal_of, Adds, Refuses, Written, Writes}
 
 -- A line that is passed over adds nothing.
@@ -84,18 +85,6 @@ module _ {text bs : List ℕ} {number : ℕ} {line : List ℕ} {left : List (Lis
 pub ends : {text bs : List ℕ} {number : ℕ} → SoFar text bs number [] → Written text bs
 ends so =
     record { records = so.records; told = rw (so.lines, append-nil so.before) so.told; bytes = so.bytes }
-
--- What comes next is the first of what is left to come.
-next_of : {S A B : Type 0} (steps : S → Option A → S → Type 0) (v : A → B) (s t : S) (x : A) (left : List B)
-    → AlwaysYields steps v s left → steps s (Some x) t → (ys : List B) × (left ≡ v x ∷ ys) × AlwaysYields steps v t ys
-next_of steps v s t x [] comes step = absurd (comes x t step)
-next_of steps v s t x (y ∷ ys) comes step = let first = comes.1 x t step in (ys, ap (λ z. z ∷ ys) (sym first.0), first.1)
-
--- Where nothing comes, nothing is left.
-none_of : {S A B : Type 0} (steps : S → Option A → S → Type 0) (v : A → B) (s t : S) (left : List B)
-    → AlwaysYields steps v s left → steps s None t → left ≡ []
-none_of steps v s t [] comes step = refl
-none_of steps v s t (y ∷ ys) comes step = absurd (comes.0 t step)
 
 -- The lines that are left are those that an iterator gives, and the next of them has the number after those before.
 pub record Coming {S : Type 0} (steps : S → Option (Bor (List ℕ)) → S → Type 0) (s : S) (text bs : List ℕ) (next : ℕ) : Type 0 where

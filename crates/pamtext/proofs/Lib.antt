@@ -1,4 +1,5 @@
 -- The lemmas that this crate's proofs share.
+pub mod Yielding
 pub mod NumberLaws
 pub mod FieldLaws
 pub mod TextLaws

@@ -9,14 +9,14 @@ pub(crate) fn numbers_of<const N: usize>(text: &str, largest: [u32; N]) -> Optio
     requires { 0 < N }
     ensures value { Numbers largest.entry text.now result }
 {
-    let last = N - 1;
+    let mut words = text.split(',');
     let mut numbers = [0; N];
-    let mut rest = text;
-    for i in 0..last {
-        let (word, after) = rest.split_once(',')?;
-        numbers[i] = number_of(word, largest[i])?;
-        rest = after;
+    // Written by index, since a proof knows nothing of what is written through an adapter of `iter_mut`.
+    for (i, most) in largest.iter().enumerate() {
+        numbers[i] = number_of(words.next()?, *most)?;
     }
-    numbers[last] = number_of(rest, largest[last])?;
-    Some(numbers)
+    match words.next() {
+        None => Some(numbers),
+        Some(_) => None,
+    }
 }

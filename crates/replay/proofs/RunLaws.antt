@@ -1,5 +1,5 @@
 -- A run goes on record by record.
-use Rattle.std.proofs.Common.{◌≡◌, ℕ, suc, ◌+◌, ◌<◌, ◌≤◌, List, [], ◌∷◌, ◌++◌, length, IfOk, Ok, Err, Result, sym, refl, ap, ◌∙◌, subst, append_assoc, add-one, arith, length-append}
+use Rattle.std.proofs.Common.{◌≡◌, ℕ, suc, ◌+◌, ◌<◌, ◌≤◌, ◌⊎◌, List, [], ◌∷◌, ◌++◌, length, IfOk, MatchResult, Some, Ok, Err, Result, inl, inr, sym, refl, ap, ◌∙◌, subst, append_assoc, add-one, arith, length-append}
 use Rattle.std.proofs.lemmas.List.{append-nil}
 use Rattle.tables.specs.Calls.{Call, roll}
 use Rattle.tables.specs.Stands.{State, Stands}
@@ -15,6 +15,7 @@ use Rattle.journal.specs.declared.report.Report.TheVariants.{Stopped}
 use Rattle.replay.specs.declared.fault.JournalFault.{JournalFault}
 use Rattle.replay.specs.declared.fault.StepFault.{StepFault}
 use Rattle.replay.specs.declared.fault.StepFault.TheVariants.{Format}
+use Rattle.replay.specs.Entries.{Gives}
 use Rattle.replay.specs.Weights.{Weighed, joined, neutral}
 use Rattle.replay.specs.Lines.{numbered, line_text}
 use Rattle.replay.specs.Steps.{call_of, served, Law, Stepped, Steps}
@@ -116,6 +117,36 @@ pub going_stopped : (N : ℕ) (bs left out out' : List ℕ) (n : ℕ) (s : State
 going_stopped N bs left out out' n s f r g some why fault written =
     subst (Follows N 1 [] bs) (sym (written ∙ ap (λ x. out ++ line_text n x) fault))
     (g.follows (printed n (Stopped (fault_number f))) (follows_stopped N n g.calls left f (λ e. omega (arith, some, ap length e)) why))
+
+-- Bytes that are not none are some.
+some_left : (bs : List ℕ) → (bs ≡ [] → ⊥) → 0 < length bs
+some_left [] none = absurd (none refl)
+some_left (b ∷ bs) none = omega arith
+
+-- A run goes on, or its last line is written and no bytes are left.
+abbrev pub Goes : ℕ → List ℕ → List ℕ → ℕ → List ℕ → State Weighed → Type 0
+Goes N bs left n out s = Going N bs left n out s ⊎ ((left ≡ []) × Follows N 1 [] bs out)
+
+-- The line of what was read is written.
+pub goes_on : (N : ℕ) (bs left rest out out' : List ℕ) (n : ℕ) (s s' : State Weighed) (read : Result Entry FormatFault) (a : Result Report StepFault)
+    → Goes N bs left n out s → Gives left (Some read) rest
+    → MatchResult read (λ e. Steps s s' e a) (λ f. a ≡ Err (Format f)) → out' ≡ out ++ line_text n (numbered n a)
+    → Goes N bs rest (n + 1) out' s'
+goes_on N bs left rest out out' n s s' (Ok e) a (inl g) reads steps written = inl (going_on N bs left rest out out' n s s' e a g reads steps written)
+goes_on N bs left rest out out' n s s' (Err f) a (inl g) gives is written =
+    inr (gives.2, going_stopped N bs left out out' n s f (numbered n a) g (some_left left gives.0) gives.1 (ap (numbered n) is) written)
+goes_on N bs left rest out out' n s s' (Ok e) a (inr done) reads steps written = absurd (omega (arith, shorter left rest e reads, ap length done.0))
+goes_on N bs left rest out out' n s s' (Err f) a (inr done) gives is written = absurd (gives.0 done.0)
+
+-- A run ends where no bytes are left.
+pub goes_to_end : (N : ℕ) (bs left out : List ℕ) (n : ℕ) (s : State Weighed) → Goes N bs left n out s → left ≡ [] → Follows N 1 [] bs out
+goes_to_end N bs left out n s (inl g) none = going_done N bs out n s left g (omega (arith, ap length none))
+goes_to_end N bs left out n s (inr done) none = done.1
+
+-- No run counts more records than there are bytes.
+pub goes_no_further : (N : ℕ) (bs left out : List ℕ) (n : ℕ) (s : State Weighed) → Goes N bs left n out s → 1 + length bs < n → Follows N 1 [] bs out
+goes_no_further N bs left out n s (inl g) far = absurd (omega (arith, g.few))
+goes_no_further N bs left out n s (inr done) far = done.1
 
 -- A heading that is refused has one line, with the number 0.
 pub replays_refused : (N : ℕ) (bs out out' : List ℕ) (f : FormatFault) (r : Result Report JournalFault)

@@ -3,4 +3,5 @@ pub mod Faults
 pub mod Weights
 pub mod Lines
 pub mod Steps
+pub mod Entries
 pub mod Runs

@@ -1,6 +1,7 @@
 //! A journal replayed on a map: each record served, and the line that is printed of it.
 #![tactic(auto)]
 
+mod entries;
 mod fault;
 mod faults;
 mod lines;

@@ -1,22 +1,32 @@
 //! A whole journal, replayed on a map that is empty at first.
-ghost use Rattle.std.specs.Prelude.{◌≤◌, [], length, IfOk};
+ghost use Rattle.std.specs.Prelude.{◌≡◌, ◌≤◌, [], length, Err, IfOk, MatchResult};
 ghost use Rattle.map.specs.Maps.{state_of};
 ghost use Rattle.tables.specs.Stands.{Stands};
 ghost use Rattle.journal.specs.Heading.{longest};
 ghost use Rattle.replay.specs.Weights.{joined, neutral};
+ghost use Rattle.replay.specs.Steps.{Steps};
+ghost use Rattle.replay.specs.declared.fault.StepFault.TheVariants.{Format};
 ghost use Rattle.replay.specs.Runs.{places_used, Follows, Replays, OnePrintout};
 
+use crate::entries::Entries;
 use crate::fault::StepFault;
 use crate::lines::{numbered, put_line};
 use crate::steps::step;
 use crate::weights::{Weighed, weigh};
-use journal::{decode, heading};
+use journal::{Entry, FormatFault, Report, heading};
 use map::Map;
 use records::BLANK;
 use std::alloc::{AllocError, Global};
 
 /// How many places the map of a run has.
 const PLACES: usize = 1021;
+
+/// Serves a record that was read. A fault of the bytes is passed up.
+fn serve(map: &mut Map<Weighed>, read: Result<Entry, FormatFault>) -> Result<Report, StepFault>
+    ensures steps { MatchResult read (λ entry. Steps (state_of map.old) (state_of map.new) entry result) (λ fault. result ≡ Err (Format fault)) }
+{
+    step(map, read?)
+}
 
 /// Replays the records after the heading, and answers their lines.
 fn replay(heap: Global, map: &mut Map<Weighed>, records: &[u8]) -> Result<Vec<u8>, AllocError>
@@ -25,22 +35,9 @@ fn replay(heap: Global, map: &mut Map<Weighed>, records: &[u8]) -> Result<Vec<u8
     ensures prints { IfOk result (λ v. Follows (state_of map.old).places 1 [] records.now v.items) }
 {
     let mut out = Vec::new(heap);
-    let mut left = records;
-    let mut number = 1u32;
-    while left.len() > 0 {
-        match decode(left) {
-            Ok((entry, rest)) => {
-                let answer = step(map, entry);
-                put_line(&mut out, number, numbered(number, answer))?;
-                left = rest;
-                number += 1;
-            }
-            Err(fault) => {
-                let answer = numbered(number, Err(StepFault::Format(fault)));
-                put_line(&mut out, number, answer)?;
-                return Ok(out);
-            }
-        }
+    for (number, read) in (1..).zip(Entries(records)) {
+        let answer = serve(map, read);
+        put_line(&mut out, number, numbered(number, answer))?;
     }
     Ok(out)
 }

@@ -1,20 +1,24 @@
--- Each turn of the loop goes on by one record, and both ends of the loop end the run.
-use Rattle.std.proofs.Common.{arith}
-use Rattle.replay.proofs.RunLaws.{going_on, going_done, going_stopped}
+-- Each turn goes on by what was read, and where nothing comes the run ends.
+use Rattle.std.proofs.Common.{refl, arith, inl, inr}
+use Rattle.replay.proofs.RunLaws.{going_first, goes_on, goes_to_end, goes_no_further}
 use Rattle.replay.proofs.runs.replay.Goals as goal
 
-pub loop-left-preserved : goal.loop-left-preserved
-loop-left-preserved c =
-    let written = c.in_ok-put_line-in-Ok.ensures.items in
-    going_on _ _ _ _ _ _ _ _ _ _ _ c.loop-left.invariant c.in-Ok.ensures.value c.step-answer.ensures.steps (cc)
+pub loop-number-init : goal.loop-number-init
+loop-number-init c =
+    rw (c.into_iter-number-iterator.ensures.into_iter_gives, c.zip-number-items.ensures.first, c.zip-number-items.ensures.second, c.new-out.ensures.items)
+    (inl (going_first _ _ _ refl c.requires.empty))
 
-pub returns-in-Err : goal.returns-in-Err
-returns-in-Err c =
-    record {
-      prints =
-          going_stopped _ _ _ _ _ _ _ c.in-Err.fault _ c.loop-left.invariant (omega arith) c.in-Err.ensures.value
-          c.numbered-answer.ensures.value c.in_ok-put_line-in-Err.ensures.items;
-    }
+pub loop-number-preserved : goal.loop-number-preserved
+loop-number-preserved c =
+    let came = c.in-Some.ensures.steps in
+    let written = rw (c.numbered.ensures.value, came.0.0) at c.in_ok-put_line.ensures.items in
+    rw (came.0.1, came.0.0)
+    (goes_on _ _ _ _ _ _ _ _ _ c.in-Some.read c.serve-answer.result c.loop-number.invariant came.1 c.serve-answer.ensures.steps written)
 
 pub returns : goal.returns
-returns c = record { prints = going_done _ _ _ _ _ _ c.loop-left.invariant (omega arith) }
+returns c = record {
+  prints = elim c.in-None.ensures.steps [
+    | inl numbers ↦ goes_no_further _ _ _ _ _ _ c.loop-number.invariant (omega (arith, c.requires.short, numbers.1))
+    | inr bytes ↦ goes_to_end _ _ _ _ _ _ c.loop-number.invariant bytes.1.0
+  ];
+}
