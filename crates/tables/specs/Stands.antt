@@ -6,6 +6,7 @@
 --   Serves, Keeps                what a call promises after some calls, and after any calls
 --   grown_tables                 both tables after a reading is entered
 --   started, grown               the map after its first reading, and after one more
+-- Maybe is the Option of the code, of numbers here; Option is that of the theory of trees.
 use Rattle.std.specs.Prelude.{◌≡◌, ℕ, ◌+◌, ◌<◌, ◌≤◌, min, Bool, true, false, List, ◌∷◌, length, Some, None, Option as Maybe, Ok, Err, slice_index_or, slice_set}
 use Rattle.std.proofs.Math.Option.{Option, none, some}
 use Rattle.records.specs.declared.record.Record.{Record}
