@@ -38,7 +38,7 @@ impl<const N: usize> Padded<N> {
         self.len = end;
     }
 
-    /// Writes a number in decimal, without leading zeros.
+    /// Writes a number in decimal, without leading zeros. Not by `write!`, which may answer an error that no clause rules out.
     pub(crate) fn put_number<I: Integer>(&mut self, n: I)
         requires { self.old.len + I.MAX_STR_LEN ≤ N }
         ensures value { text self.new ≡ text self.old ++ I.text n }

@@ -5,6 +5,7 @@ use crate::fields::numbers_of;
 use journal::Entry;
 
 /// The largest number of 16 bits: counts, the ends of a band and its margin.
+/// A number up to it is cast to 16 bits by `as`, which is proved to lose nothing; `try_from` would be no plainer.
 const LARGEST16: u32 = 65535;
 
 /// The largest number of 32 bits: all other fields.
