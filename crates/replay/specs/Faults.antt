@@ -1,26 +1,15 @@
--- The faults of the numbers of a record, the numbers of all faults of a journal, and what is printed of them.
---   disc_fault, band_fault   the fault of the numbers of a disc and of a band
---   step_number              the number of the fault of a step
---   fault_report             what the line of its record says
-use Rattle.std.specs.Prelude.{ℕ, nat_lt, if◌then◌else◌, Some, None, Option}
+-- The numbers of all faults of a journal, and what is printed of them.
+--   step_number    the number of the fault of a step
+--   fault_report   what the line of its record says
+use Rattle.std.specs.Prelude.{ℕ}
 use Rattle.journal.specs.Faults.{fault_number as format_number}
 use Rattle.journal.specs.declared.report.Report.{Report}
 use Rattle.journal.specs.declared.report.Report.TheVariants.{Refused, Stopped}
 use Rattle.reading.specs.Faults.{number as reading_number}
 use Rattle.shape.specs.Faults.{fault_number as shape_number}
-use Rattle.shape.specs.declared.fault.ShapeFault.{ShapeFault}
-use Rattle.shape.specs.declared.fault.ShapeFault.TheVariants.{OuterRadiusTooLarge, InnerRadiusAboveOuter, MotorEndsReversed, RootEndsReversed}
 use Rattle.tables.specs.Calls.{fault_number as map_number}
 use Rattle.replay.specs.declared.fault.StepFault.{StepFault}
 use Rattle.replay.specs.declared.fault.StepFault.TheVariants.{Format, Reading, Shape, Map}
-
--- The fault of the radii of a disc, if there is one: the outer radius R is too large, or else the inner radius r is above it.
-abbrev pub disc_fault : ℕ → ℕ → Option ShapeFault
-disc_fault r R = if nat_lt 100000 R then Some OuterRadiusTooLarge else if nat_lt R r then Some InnerRadiusAboveOuter else None
-
--- The fault of the ends of a band, if there is one: its lowest motor count is above its highest, or else its lowest root count.
-abbrev pub band_fault : ℕ → ℕ → ℕ → ℕ → Option ShapeFault
-band_fault lm hm lr hr = if nat_lt hm lm then Some MotorEndsReversed else if nat_lt hr lr then Some RootEndsReversed else None
 
 -- The number of a fault is that of the fault that it holds: 1 and 2 of a reading, 3 to 6 of a shape, 7 to 9 of the map, 10 to 14 of the bytes.
 abbrev pub step_number : StepFault → ℕ

@@ -25,7 +25,7 @@ use Rattle.journal.specs.declared.report.Report.TheVariants.{Ok as Changed, Tall
 use Rattle.replay.specs.declared.fault.StepFault.{StepFault}
 use Rattle.replay.specs.declared.fault.StepFault.TheVariants.{Reading as OfReading, Shape as OfShape, Map as OfMap}
 use Rattle.tally.specs.Spans.{times_in}
-use Rattle.replay.specs.Faults.{disc_fault, band_fault}
+use Rattle.shape.specs.Faults.{disc_fault, band_fault}
 use Rattle.replay.specs.Weights.{Weighed, joined, neutral, weighed}
 
 -- The record asks, and changes nothing.

@@ -1,7 +1,8 @@
 -- Why a shape is refused.
---   fault_number   the number of each refusal
---   DiscRefused, BandRefused when each refusal is answered
-use Rattle.std.specs.Prelude.{ℕ, ◌<◌, ◌≤◌}
+--   fault_number               the number of each refusal
+--   disc_fault, band_fault     the fault of the numbers of a disc and of a band
+--   DiscRefused, BandRefused   when each refusal is answered
+use Rattle.std.specs.Prelude.{◌≡◌, ℕ, nat_lt, if◌then◌else◌, Some, None, Option}
 use Rattle.shape.specs.declared.fault.ShapeFault.{ShapeFault}
 use Rattle.shape.specs.declared.fault.ShapeFault.TheVariants.{OuterRadiusTooLarge, InnerRadiusAboveOuter, MotorEndsReversed, RootEndsReversed}
 
@@ -12,16 +13,18 @@ fault_number InnerRadiusAboveOuter = 4
 fault_number MotorEndsReversed = 5
 fault_number RootEndsReversed = 6
 
--- When a disc with the inner radius r and the outer radius R is refused, and why.
-abbrev pub DiscRefused : ℕ → ℕ → ShapeFault → Type 0
-DiscRefused r R OuterRadiusTooLarge = 100000 < R
-DiscRefused r R InnerRadiusAboveOuter = (R ≤ 100000) × (R < r)
-DiscRefused r R MotorEndsReversed = ⊥
-DiscRefused r R RootEndsReversed = ⊥
+-- The fault of the radii of a disc, if there is one: the outer radius R is too large, or else the inner radius r is above it.
+abbrev pub disc_fault : ℕ → ℕ → Option ShapeFault
+disc_fault r R = if nat_lt 100000 R then Some OuterRadiusTooLarge else if nat_lt R r then Some InnerRadiusAboveOuter else None
 
--- When a band with the given ends is refused, and why.
+-- The fault of the ends of a band, if there is one: its lowest motor count is above its highest, or else its lowest root count.
+abbrev pub band_fault : ℕ → ℕ → ℕ → ℕ → Option ShapeFault
+band_fault lm hm lr hr = if nat_lt hm lm then Some MotorEndsReversed else if nat_lt hr lr then Some RootEndsReversed else None
+
+-- A disc with the inner radius r and the outer radius R is refused by the fault of its radii.
+abbrev pub DiscRefused : ℕ → ℕ → ShapeFault → Type 0
+DiscRefused r R f = disc_fault r R ≡ Some f
+
+-- A band with the given ends is refused by the fault of its ends.
 abbrev pub BandRefused : ℕ → ℕ → ℕ → ℕ → ShapeFault → Type 0
-BandRefused lm hm lr hr OuterRadiusTooLarge = ⊥
-BandRefused lm hm lr hr InnerRadiusAboveOuter = ⊥
-BandRefused lm hm lr hr MotorEndsReversed = hm < lm
-BandRefused lm hm lr hr RootEndsReversed = (lm ≤ hm) × (hr < lr)
+BandRefused lm hm lr hr f = band_fault lm hm lr hr ≡ Some f

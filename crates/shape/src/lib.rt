@@ -12,6 +12,7 @@ mod shapes;
 pub use band::Band;
 pub use disc::Disc;
 pub use fault::ShapeFault;
+pub use faults::refusals_mean;
 pub use shapes::Shape;
 
 #[cfg(test)]
