@@ -12,7 +12,7 @@ use Rattle.shape.proofs.disc.Disc.crossing_sum.Goals as goal
 
 pub sum-requires-clause-fits : goal.sum-requires-clause-fits
 sum-requires-clause-fits c =
-    fits_from_length _ _ 33 _ (at_most_from_yields_List (YieldsList-from_range 0 33 33 (cc) refl) (omega arith)) c.map.ensures.closure (omega arith)
+    fits_from_length _ _ 33 _ (at_most_from_yields_List (YieldsList-from_range 0 _ _ c.map.ensures.source refl) (omega arith)) c.map.ensures.closure (omega arith)
     (λ x r q k. search (rules, tests))
 
 -- the sum over the first n depths, as a list and by recursion
@@ -31,7 +31,7 @@ unfolding crossing_sum
 value c =
     let d = c.args.self.now in
     let f = λ (k : ℕ). added d.inner_radius (d.outer_radius - d.inner_radius) k in
-    sum_from_yields_List c.map.result c.sum.result c.sum.ensures.ran (YieldsList-from_map _ f (YieldsList-from_range 0 33 33 (cc) refl) c.map.ensures.closure (λ x r q k. search (rules, tests)))
+    sum_from_yields_List c.map.result c.sum.result c.sum.ensures.ran (YieldsList-from_map _ f (YieldsList-from_range 0 _ _ c.map.ensures.source refl) c.map.ensures.closure (λ x r q k. search (rules, tests)))
     ∙ over_depths 33 f
 
 pub returns-clause-value : goal.returns-clause-value
