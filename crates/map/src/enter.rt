@@ -38,7 +38,7 @@ impl<'a, K: Tally> Map<'a, K> {
             inner: None,
             first: NONE,
             second: NONE,
-            parent: NONE,
+            parent: None,
             rank: Rank { priority, code },
         };
         records::write(self.records, i, record);

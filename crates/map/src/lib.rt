@@ -111,22 +111,22 @@ impl<'a, K: Tally> Map<'a, K> {
         nodes::descend::<K>(self.records, self.root, code, self.places as u32)
     }
 
-    /// Renews the tallies from the node at `from` up to the root.
-    fn climb(&mut self, from: u16)
+    /// Renews the tallies from the node at `from`, if there is one, up to the root.
+    fn climb(&mut self, from: Option<u16>)
         ensures run { self.new.tallies.now ≡ climbed K.Tally.joined K.Tally.neutral self.old.records.now self.old.places from self.old.tallies.now }
         ensures same { self.new.records.now ≡ self.old.records.now }
         ensures rest { (self.new.places ≡ self.old.places) × ((self.new.root ≡ self.old.root) × ((self.new.live ≡ self.old.live) × ((self.new.fresh ≡ self.old.fresh) × (self.new.freed ≡ self.old.freed)))) }
         ensures lends { Lends self.old self.new }
     {
-        let mut i = from;
+        let mut at = from;
         let mut left = self.places;
         while left > 0 {
-            if i == NONE {
+            let Some(i) = at else {
                 return;
-            }
+            };
             let r = self.node(i);
             renew(self.tallies, i, r.first, r.second);
-            i = r.parent;
+            at = r.parent;
             left -= 1;
         }
     }
@@ -157,7 +157,7 @@ impl<'a, K: Tally> Map<'a, K> {
         let mut left = self.places;
         while left > 0 {
             let r = self.node(s);
-            if r.parent == NONE {
+            if r.parent.is_none() {
                 return s;
             }
             let v = nodes::settle::<K>(self.records, s);

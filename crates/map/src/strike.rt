@@ -18,11 +18,10 @@ impl<'a, K: Tally> Map<'a, K> {
         let mut i = from;
         let mut left = self.places;
         while left > 0 {
-            let r = self.node(i);
-            if r.parent == NONE {
+            let Some(up) = self.node(i).parent else {
                 return i;
-            }
-            i = r.parent;
+            };
+            i = up;
             left -= 1;
         }
         i
@@ -89,7 +88,7 @@ impl<'a, K: Tally> Map<'a, K> {
         if r.rank.code != code {
             return Err(MapFault::Absent);
         }
-        if r.parent == NONE {
+        if r.parent.is_none() {
             self.strike_last(leaf);
             return Ok(self.live);
         }

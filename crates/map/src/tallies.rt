@@ -97,14 +97,13 @@ impl<'a, K: Tally> Map<'a, K> {
     fn go_back(&self, spot: Spot<K>) -> Spot<K>
         ensures value { result ≡ returned self.now.records.now (at self.now.records.now spot.node).parent spot }
     {
-        let parent = self.node(spot.node).parent;
-        if parent == NONE {
+        let Some(parent) = self.node(spot.node).parent else {
             return Spot {
                 node: NONE,
                 down: false,
                 ..spot
             };
-        }
+        };
         let r = self.node(parent);
         if r.first == spot.node {
             return Spot {

@@ -9,6 +9,7 @@ use Rattle.quadtreap.specs.Tree.{Reading, Content, reading, box, tree_of, nodes}
 use Rattle.quadtreap.specs.Find.{of_code, lookup}
 use Rattle.quadtreap.specs.Carry.{carry, carry_all, carry_tree, map_carry}
 use Rattle.records.specs.Kinds.{is_reading}
+use Rattle.records.specs.Links.{Link}
 use Rattle.records.specs.PlacedNodes.{PlacedNodes, leaf_at, unplaced, place_of, one, occurs, LiesIn, record_of, above, plug, NodeFrame}
 use Rattle.records.specs.Writes.{at}
 use Rattle.records.specs.PlacedPairs.{PlacedPairs, placed_leaf, nodes_of, tree_in, RanksStand, PairFrame, put_in_all, node_frames}
@@ -160,7 +161,7 @@ module _ {K : Type 0} (join : K → K → K) (e : K) (k : ℕ) (v : K) where
         climbed_up.others j d (omega arith) ∙ get_or-set_other ts i j _ d (differ j i (omega arith))
 
   -- what the leaf holds is no reading with the code
-  pub other_content : (c : Content K) (p i : ℕ) (C : Box) (q : Record) → q ≡ record_of p (leaf_at i C c) → (is_reading q.kind ≡ false) ⊎ (q.rank.code ≢ k) → of_code k c ≡ none
+  pub other_content : (c : Content K) (p : Link) (i : ℕ) (C : Box) (q : Record) → q ≡ record_of p (leaf_at i C c) → (is_reading q.kind ≡ false) ⊎ (q.rank.code ≢ k) → of_code k c ≡ none
   other_content (reading r) p i C q is (inl far) = absurd (mathlib.Core.Bool.false≢true (sym far ∙ ap (λ (x : Record). is_reading x.kind) is))
   other_content (reading r) p i C q is (inr far) = ap (λ b. cond b (some r) none) (ne_eqb k r.code (λ z. far (ap (λ (x : Record). x.rank.code) is ∙ sym z)))
   other_content (box I) p i C q is way = refl
@@ -187,7 +188,7 @@ module _ {K : Type 0} (join : K → K → K) (e : K) (k : ℕ) (v : K) where
         let there : present k rs ≡ true = ap is_some here in
         let up : q.parent ≡ above (node_frames path) = ap (λ (x : Record). x.parent) is in
         let ts1 : List K = set s.tallies i (join (get_or s.tallies i e) v) in
-        subst (λ (p : ℕ). Serves join e s (state s.records (climbed join e s.records s.places p ts1) s.places s.root s.live s.fresh s.freed) (repeats k v) cs (Ok m)) (sym up)
+        subst (λ p. Serves join e s (state s.records (climbed join e s.records s.places p ts1) s.places s.root s.live s.fresh s.freed) (repeats k v) cs (Ok m)) (sym up)
         record {
           stands = subst (λ b. Stands join e (state s.records (climbed join e s.records s.places (above (node_frames path)) ts1) s.places s.root s.live s.fresh s.freed) (cond b (carry_all (more join k v) rs) rs)) (sym there)
               (stands_after s rs st far i path C r whole same);

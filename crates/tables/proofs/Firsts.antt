@@ -1,5 +1,5 @@
 -- The first reading of a map.
-use Rattle.std.proofs.Common.{◌≡◌, ℕ, ◌^◌, ◌<◌, ◌≤◌, min, List, [], ◌∷◌, length, set, sym, refl, ap, ◌∙◌, subst, inl, inr, arith, length-set, get_or-set_other, get_or-set_same}
+use Rattle.std.proofs.Common.{◌≡◌, ℕ, ◌^◌, ◌<◌, ◌≤◌, min, List, [], ◌∷◌, length, set, sym, refl, ap, ◌∙◌, subst, inl, inr, arith, length-set, get_or-set_other, get_or-set_same, None}
 use mathlib.Core.Option.{none, some}
 use Rattle.std.proofs.lemmas.Bool.{cases_lt, cases_eq}
 use Rattle.records.specs.declared.record.Record.{Record}
@@ -50,7 +50,7 @@ module _ {K : Type 0} (join : K → K → K) (e : K) (k priority : ℕ) (v : K) 
   t1 = take s.places s.records s.freed s.fresh st.spare pool (let a = no_nodes in let b = st.used in omega arith)
 
   abbrev r : Record
-  r = record_of 65535 (leaf_at i whole (reading p))
+  r = record_of None (leaf_at i whole (reading p))
 
   inside : (i < length s.records) × (i < length s.tallies)
   inside = let q = st.size in let z = t1.below in (omega arith, omega arith)

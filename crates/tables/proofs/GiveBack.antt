@@ -1,13 +1,14 @@
 -- Places that are given back: the chain of the free places, and what stays in the table.
-use Rattle.std.proofs.Common.{◌≡◌, ℕ, zero, suc, ◌+◌, ◌-◌, ◌<◌, ◌≤◌, cond, ◌≢◌, List, [], ◌∷◌, length, sym, refl, ap, ◌∙◌, subst, inl, inr, arith, length-set, get_or-set_other, get_or-set_same}
-use Rattle.std.proofs.lemmas.Bool.{eq-eqb, ne_eqb, cases_lt, cases_eq}
+use Rattle.std.proofs.Common.{◌≡◌, ℕ, zero, suc, ◌+◌, ◌-◌, ◌<◌, ◌≤◌, List, [], ◌∷◌, length, sym, refl, ap, ◌∙◌, subst, inl, inr, arith, length-set, get_or-set_other, get_or-set_same, None, Some}
+use Rattle.std.proofs.lemmas.Bool.{cases_eq}
 use Rattle.records.specs.declared.record.Record.{Record}
 use Rattle.records.specs.declared.places.FourPlaces.{FourPlaces}
+use Rattle.records.specs.Links.{Link}
 use Rattle.records.specs.PlacedNodes.{PlacedNodes, leaf_at, node_at, place_of, one, occurs, blank, LiesIn, record_of, NodeFrame, first, second, plug, above}
 use Rattle.records.specs.Writes.{at, with_first}
 use Rattle.records.specs.PlacedPairs.{four}
 use Rattle.tables.specs.Stands.{among, Chain}
-use Rattle.tables.specs.Removal.{given, four_given, root_above}
+use Rattle.tables.specs.Removal.{given, four_given, up_or, root_above}
 use Rattle.records.specs.Elsewhere.{Elsewhere}
 use Rattle.records.proofs.FrameLaws.{one_same, differ, root_lies, same_nodes, LiesAmong, up_first, up_second}
 use Rattle.records.proofs.ElsewhereLaws.{onward, wider}
@@ -80,34 +81,29 @@ module _ (recs : List Record) (freed : ℕ) (n : FourPlaces) where
 -- what lies in a table stays where its records stay
 pub kept_on : {K : Type 0} (used : ℕ → ℕ) (recs recs' : List Record) → Elsewhere used recs recs' → (t : PlacedNodes K) → ((j : ℕ) → 1 ≤ occurs j t → used j ≡ 0) → LiesIn recs t → LiesIn recs' t
 kept_on used recs recs' same t off h = record {
-  laid = same_nodes recs recs' same.long 65535 t (λ j z. same.reads j (off j z)) h.laid;
+  laid = same_nodes recs recs' same.long None t (λ j z. same.reads j (off j z)) h.laid;
   once = h.once;
   low = h.low;
   sized = h.sized;
 }
 
 -- the way up by the parents ends at the root
-pub stops : (recs : List Record) (n i : ℕ) → (at recs i).parent ≡ 65535 → root_above n recs i ≡ i
+pub stops : (recs : List Record) (n i : ℕ) → (at recs i).parent ≡ None → root_above n recs i ≡ i
 stops recs zero i is = refl
-stops recs (suc n) i is = ap (λ b. cond b i (root_above n recs (at recs i).parent)) (eq-eqb (at recs i).parent 65535 is)
+stops recs (suc n) i is = ap (up_or i (root_above n recs)) is
 
-goes : (recs : List Record) (n i p : ℕ) → (at recs i).parent ≡ p → p < 65535 → root_above (suc n) recs i ≡ root_above n recs p
-goes recs n i p is low =
-    ap (λ b. cond b i (root_above n recs (at recs i).parent)) (ne_eqb (at recs i).parent 65535 (λ z. omega arith)) ∙ ap (root_above n recs) is
+goes : (recs : List Record) (n i p : ℕ) → (at recs i).parent ≡ Some p → root_above (suc n) recs i ≡ root_above n recs p
+goes recs n i p is = ap (up_or i (root_above n recs)) is
 
 -- one turn of the loop: r is what it reads
-pub turns : (recs : List Record) (n i : ℕ) (r : Record) → 0 < n → r ≡ at recs i → r.parent ≢ 65535 → root_above (n - 1) recs r.parent ≡ root_above n recs i
-turns recs zero i r go is far = absurd (omega arith)
-turns recs (suc n) i r go is far =
+pub turns : (recs : List Record) (n i p : ℕ) (r : Record) → 0 < n → r ≡ at recs i → r.parent ≡ Some p → root_above (n - 1) recs p ≡ root_above n recs i
+turns recs zero i p r go is up = absurd (omega arith)
+turns recs (suc n) i p r go is up =
     let back : suc n - 1 ≡ n = omega arith in
-    ap (λ (m : ℕ). root_above m recs r.parent) back ∙ ap (λ (v : Record). root_above n recs v.parent) is
-    ∙ sym (ap (λ b. cond b i (root_above n recs (at recs i).parent)) (ne_eqb (at recs i).parent 65535 (λ z. far (ap (λ (v : Record). v.parent) is ∙ z))))
-
-below : (p : ℕ) → (65535 ≤ p → ⊥) → p < 65535
-below p far = elim (cases_lt p 65535) [ inl l ↦ l | inr l ↦ absurd (far l) ]
+    ap (λ (m : ℕ). root_above m recs p) back ∙ sym (goes recs n i p (ap (λ (v : Record). v.parent) (sym is) ∙ up))
 
 module _ {K : Type 0} (recs : List Record) where
-  root_parent : (p : ℕ) (t : PlacedNodes K) → (record_of p t).parent ≡ p
+  root_parent : (p : Link) (t : PlacedNodes K) → (record_of p t).parent ≡ p
   root_parent p (leaf_at q C c) = refl
   root_parent p (node_at k q r C g a b) = refl
 
@@ -119,8 +115,8 @@ module _ {K : Type 0} (recs : List Record) where
   tops zero (first k p r C g b ∷ f) t h few = absurd (omega arith)
   tops zero (second k p r C g a ∷ f) t h few = absurd (omega arith)
   tops (suc n) (first k p r C g b ∷ f) t h few =
-      goes recs n (place_of t) p (parent_is (first k p r C g b ∷ f) t h) (below p (λ l. let z = h.low p l in let s = one_same p in omega arith))
+      goes recs n (place_of t) p (parent_is (first k p r C g b ∷ f) t h)
       ∙ tops n f (node_at k p r C g t b) (up_first recs f k p r C g t b h) (omega arith)
   tops (suc n) (second k p r C g a ∷ f) t h few =
-      goes recs n (place_of t) p (parent_is (second k p r C g a ∷ f) t h) (below p (λ l. let z = h.low p l in let s = one_same p in omega arith))
+      goes recs n (place_of t) p (parent_is (second k p r C g a ∷ f) t h)
       ∙ tops n f (node_at k p r C g a t) (up_second recs f k p r C g a t h) (omega arith)

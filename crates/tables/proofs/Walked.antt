@@ -1,5 +1,5 @@
 -- The tally of a shape is what the tree of the live readings answers.
-use Rattle.std.proofs.Common.{◌≡◌, ℕ, ◌*◌, ◌≤◌, ◌≢◌, List, sym, refl, ap, ◌∙◌, subst, inl, inr, arith}
+use Rattle.std.proofs.Common.{◌≡◌, ℕ, ◌*◌, ◌≤◌, ◌≢◌, List, sym, refl, ap, ◌∙◌, subst, inl, inr, arith, None}
 use Rattle.std.proofs.lemmas.Bool.{cases_eq}
 use Rattle.tables.specs.declared.walk.Spot.{Spot}
 use Rattle.crossing.specs.Regions.{Places, crossings}
@@ -37,7 +37,7 @@ module _ {K : Type 0} (join : K → K → K) (e : K) (laws : Joins join e) (s : 
     found_held far =
         let t : PlacedPairs K = held 0 join e s rs st far in
         let lain : LiesTallied join e s.records s.tallies t = held_lain 0 join e s rs st far in
-        let laid : Laid join e q laws s.records s.tallies 65535 (nodes_of t) = record { laid = lain.kept.laid; totals = lain.totals; once = lain.kept.once; low = lain.kept.low } in
+        let laid : Laid join e q laws s.records s.tallies None (nodes_of t) = record { laid = lain.kept.laid; totals = lain.totals; once = lain.kept.once; low = lain.kept.low } in
         let few : 2 * nodes (tree_in t) ≤ s.places * 2 = (let f = held_few 0 join e s rs st far in omega arith) in
         ap (λ (i : ℕ). found (ran join e q s.records s.tallies (s.places * 2) (starts i e))) (held_top 0 join e s rs st far)
         ∙ ap found (whole_walk join e q laws s.records s.tallies (nodes_of t) (s.places * 2) laid few)

@@ -3,9 +3,10 @@
 --   given_state, four_given_state   the map after places are given back
 --   root_above                      the root, found by the parents
 --   struck_state, emptied_state     the map without one of several readings, and without its last
-use Rattle.std.specs.Prelude.{ℕ, zero, suc, ◌-◌, cond, List, ◌==◌, slice_set}
+use Rattle.std.specs.Prelude.{ℕ, zero, suc, ◌-◌, List, slice_set, None, Some}
 use Rattle.records.specs.declared.record.Record.{Record}
 use Rattle.records.specs.declared.places.FourPlaces.{FourPlaces}
+use Rattle.records.specs.Links.{Link}
 use Rattle.records.specs.Writes.{at, with_first}
 use Rattle.tables.specs.Totals.{climbed}
 use Rattle.tables.specs.Stands.{State, state}
@@ -26,10 +27,15 @@ given_state s i = state (given s.records i s.freed) s.tallies s.places s.root s.
 abbrev pub four_given_state : {K : Type 0} → State K → FourPlaces → State K
 four_given_state s n = state (four_given s.records s.freed n) s.tallies s.places s.root s.live s.fresh n.outer
 
+-- What f finds from a parent, or i where there is no parent.
+abbrev pub up_or : ℕ → (ℕ → ℕ) → Link → ℕ
+up_or i f None = i
+up_or i f (Some p) = f p
+
 -- The root of the tree that has the node at i, at most n steps up.
 abbrev pub root_above : ℕ → List Record → ℕ → ℕ
 root_above zero recs i = i
-root_above (suc n) recs i = cond ((at recs i).parent == 65535) i (root_above n recs (at recs i).parent)
+root_above (suc n) recs i = up_or i (root_above n recs) (at recs i).parent
 
 -- The map after the leaf at i has taken the place of a pair: the entries above it are renewed, and the places n are free.
 abbrev pub struck_state : {K : Type 0} → (K → K → K) → K → State K → ℕ → FourPlaces → State K

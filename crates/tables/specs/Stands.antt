@@ -161,5 +161,5 @@ grown_tables join e N recs ts i k priority v n =
 abbrev pub started : {K : Type 0} → State K → ℕ → ℕ → K → State K
 started s k priority v =
     let i : ℕ = takes s.freed s.fresh in
-    state (slice_set s.records i (leaf_record ReadingKind (record { depth = 0; code = 0 }) None 65535 (record { priority = priority; code = k }))) (slice_set s.tallies i v) s.places i 1
+    state (slice_set s.records i (leaf_record ReadingKind (record { depth = 0; code = 0 }) None None (record { priority = priority; code = k }))) (slice_set s.tallies i v) s.places i 1
     (fresh_after s.freed s.fresh) (freed_after s.records s.freed)

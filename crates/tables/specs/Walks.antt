@@ -5,7 +5,7 @@
 --   crossed, arrived      what follows where the walk has come down to a node
 --   returned, turned      what follows where it is done with a node, and one turn
 --   starts, ran           the turns of a walk from its start
-use Rattle.std.specs.Prelude.{◌≡◌, ℕ, zero, suc, ◌+◌, min, Bool, true, false, cond, List, ◌==◌, slice_index_or}
+use Rattle.std.specs.Prelude.{◌≡◌, ℕ, zero, suc, ◌+◌, min, Bool, true, false, cond, List, ◌==◌, slice_index_or, None, Some}
 use Rattle.records.specs.declared.record.Record.{Record}
 use Rattle.tables.specs.declared.walk.Sight.{Sight}
 use Rattle.tables.specs.declared.walk.Sight.TheVariants.{Misses, Held, Crosses}
@@ -14,6 +14,7 @@ use Rattle.place.specs.Codes.{motor_of, root_of}
 use Rattle.place.specs.Boxes.{Box, cut, in_box}
 use Rattle.crossing.specs.Regions.{Places, misses, held}
 use Rattle.quadtreap.specs.Walk.{Tests}
+use Rattle.records.specs.Links.{Link}
 use Rattle.records.specs.Kinds.{is_reading, is_box}
 use Rattle.records.specs.Writes.{at, box_of}
 
@@ -56,11 +57,10 @@ arrived join q r k s =
     cond (q.misses (box_of r.outer)) (moved s s.node false)
     (cond (q.held (box_of r.outer)) (took join s k) (crossed join q r k s))
 
--- What follows where the walk is done with a node whose parent is at p: the second child follows the first, the parent follows the second, and 65535 is no node.
-abbrev pub returned : {K : Type 0} → List Record → ℕ → Spot K → Spot K
-returned recs p s =
-    cond (p == 65535) (moved s 65535 false)
-    (cond ((at recs p).first == s.node) (moved s (at recs p).second true) (moved s p false))
+-- What follows where the walk is done with a node whose parent is at p: the second child follows the first, the parent follows the second, and 65535, which is no node, follows the root.
+abbrev pub returned : {K : Type 0} → List Record → Link → Spot K → Spot K
+returned recs None s = moved s 65535 false
+returned recs (Some p) s = cond ((at recs p).first == s.node) (moved s (at recs p).second true) (moved s p false)
 
 -- One turn of a walk.
 abbrev pub turned : {K : Type 0} → (K → K → K) → K → Tests → List Record → List K → Spot K → Spot K

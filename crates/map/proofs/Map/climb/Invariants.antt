@@ -5,8 +5,8 @@ use Rattle.tables.specs.Totals.{climbed}
 -- what is left of the run is the run from the start
 abbrev pub invariant-loop-left : goal.invariant-loop-left
 invariant-loop-left g l =
-    (climbed g.K.Tally.joined g.K.Tally.neutral l.initial.self.records.now l.left l.i l.self.tallies.now
-    ≡ climbed g.K.Tally.joined g.K.Tally.neutral l.initial.self.records.now l.initial.self.places l.from l.initial.self.tallies.now)
+    (climbed g.K.Tally.joined g.K.Tally.neutral l.initial.self.records.now l.left l.at l.self.tallies.now
+    ≡ climbed g.K.Tally.joined g.K.Tally.neutral l.initial.self.records.now l.initial.self.places l.fn.from l.initial.self.tallies.now)
     × (l.self.records.now ≡ l.initial.self.records.now)
     × (l.self.records.ghost_name ≡ l.initial.self.records.ghost_name)
     × (l.self.tallies.ghost_name ≡ l.initial.self.tallies.ghost_name)

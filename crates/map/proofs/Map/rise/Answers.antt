@@ -1,16 +1,17 @@
-use Rattle.std.proofs.Common.{◌≡◌, ◌-◌, List, sym, ap, ◌∙◌, Some}
+use Rattle.std.proofs.Common.{◌≡◌, ◌-◌, List, sym, not, ap, ◌∙◌, Some}
+use Rattle.std.specs.Option.{is_none}
 use Rattle.records.specs.declared.record.Record.{Record}
 use Rattle.map.proofs.Map.rise.Goals as goal
 use Rattle.tables.specs.Totals.{raised, mended}
 use Rattle.tables.proofs.Raises.{stops, turns}
 
-pub returns-then-r : goal.returns-then-r
-returns-then-r g c =
+pub returns-then-is_none : goal.returns-then-is_none
+returns-then-is_none g c =
     let i = c.loop-left.invariant in
     record {
       run =
           sym (stops g.K.Tally.joined g.K.Tally.neutral c.loop-left.left c.loop-left.self.records.now c.loop-left.self.tallies.now c.loop-left.s
-          (ap (λ (v : Record). v.parent) (sym c.node-r.ensures) ∙ c.if-r.true)) ∙ i.0;
+          (ap (λ (v : Record). is_none v.parent) (sym c.node-r.ensures) ∙ ap not (c.is_none.ensures ∙ ap not c.if-is_none.true))) ∙ i.0;
       rest = (i.3, (i.4, (i.5, (i.6, i.7))));
       lends = (i.1, i.2);
     }
@@ -23,7 +24,7 @@ loop-left-preserved g c =
     let recs1 : c.mend-in-loop-left.new.self.records.now ≡ c.settle-v.new.records = b.same ∙ a.same in (
       ap (λ (l : List Record). raised g.K.Tally.joined g.K.Tally.neutral (c.loop-left.left - 1) l c.mend-in-loop-left.new.self.tallies.now c.settle-v.result.top) recs1
           ∙ turns g.K.Tally.joined g.K.Tally.neutral c.loop-left.left c.loop-left.self.records.now c.settle-v.new.records c.loop-left.self.tallies.now c.mend.new.self.tallies.now c.mend-in-loop-left.new.self.tallies.now
-          c.loop-left.s c.settle-v.result.top c.settle-v.result.low c.node-r.result c.loop-left-test.true c.node-r.ensures c.if-r.false c.settle-v.ensures.table c.settle-v.ensures.top c.settle-v.ensures.low
+          c.loop-left.s c.settle-v.result.top c.settle-v.result.low c.node-r.result c.loop-left-test.true c.node-r.ensures (ap not (c.is_none.ensures ∙ ap not c.if-is_none.false)) c.settle-v.ensures.table c.settle-v.ensures.top c.settle-v.ensures.low
           a.run (b.run ∙ ap (λ (l : List Record). mended g.K.Tally.joined g.K.Tally.neutral l (Some c.settle-v.result.top) c.mend.new.self.tallies.now) a.same)
           ∙ i.0,
       b.lends.0 ∙ a.lends.0 ∙ i.1,

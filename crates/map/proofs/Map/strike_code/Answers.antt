@@ -1,4 +1,4 @@
-use Rattle.std.proofs.Common.{refl, ap, inl, inr, rules}
+use Rattle.std.proofs.Common.{not, refl, ap, ◌∙◌, inl, inr, rules}
 use Rattle.records.specs.declared.places.Sinking.TheVariants.{Lost}
 use Rattle.map.proofs.Map.strike_code.Goals as goal
 use Rattle.tables.specs.Stands.{State}
@@ -19,11 +19,11 @@ returns-then-r-code g c = record {
   lends = (refl, refl);
 }
 
-pub returns-then-r : goal.returns-then-r
-returns-then-r g c = record {
+pub returns-then-is_none : goal.returns-then-is_none
+returns-then-is_none g c = record {
   keeps =
       keeps_last g.K.Tally.joined g.K.Tally.neutral c.args.code _ c.descend-leaf.result c.node-r.result c.if-self.false c.descend-leaf.ensures c.node-r.ensures (search rules) c.if-r-code.false
-      c.if-r.true _ (ap (λ (s : State g.row.K.Denot). s.live) c.strike_last.ensures.run) _ c.strike_last.ensures.run;
+      (ap not (c.is_none.ensures ∙ ap not c.if-is_none.true)) _ (ap (λ (s : State g.row.K.Denot). s.live) c.strike_last.ensures.run) _ c.strike_last.ensures.run;
   lends = c.strike_last.ensures.lends;
 }
 
@@ -31,7 +31,7 @@ pub returns-in-Done : goal.returns-in-Done
 returns-in-Done g c = record {
   keeps =
       keeps_struck g.K.Tally.joined g.K.Tally.neutral c.args.code _ c.descend-leaf.result c.node-r.result c.if-self.false c.descend-leaf.ensures c.node-r.ensures (search rules) c.if-r-code.false
-      c.if-r.false c.strike.new.records c.in-Done.i c.in-Done.places c.in-Done.ensures.table c.in-Done.ensures.ends
+      (ap not (c.is_none.ensures ∙ ap not c.if-is_none.false)) c.strike.new.records c.in-Done.i c.in-Done.places c.in-Done.ensures.table c.in-Done.ensures.ends
       _ (ap (λ (s : State g.row.K.Denot). s.live) c.finish_strike.ensures.run) _ c.finish_strike.ensures.run;
   lends = c.finish_strike.ensures.lends;
 }
@@ -40,6 +40,6 @@ pub returns-in-Lost : goal.returns-in-Lost
 returns-in-Lost g c = record {
   keeps =
       keeps_never g.K.Tally.joined g.K.Tally.neutral c.args.code _ c.descend-leaf.result c.node-r.result c.if-self.false c.descend-leaf.ensures c.node-r.ensures (search rules) c.if-r-code.false
-      c.if-r.false Lost c.in-Lost.ensures.ends refl _ _;
+      (ap not (c.is_none.ensures ∙ ap not c.if-is_none.false)) Lost c.in-Lost.ensures.ends refl _ _;
   lends = (refl, refl);
 }
