@@ -3,7 +3,7 @@ ghost use Rattle.std.specs.Prelude.{◌≡◌};
 ghost use Rattle.tables.specs.Totals.{renewed, climbed, mended, tables, raised};
 
 use crate::{entry, store};
-use records::{NONE, Record, read};
+use records::{Record, read};
 use tally::Tally;
 
 /// The tally at `i` anew, from those of two children.
@@ -15,20 +15,20 @@ fn renew<K: Tally>(tallies: &mut [K], i: u16, x: u16, y: u16)
     store(tallies, i, a.join(b));
 }
 
-/// Renews the tallies from the node at `from` up to the root. The records are only read; they come as `&mut`, since the
+/// Renews the tallies from the node at `from`, if there is one, up to the root. The records are only read; they come as `&mut`, since the
 /// check does not follow a field of a map that is lent as `&` beside one that is lent as `&mut`.
-pub(crate) fn climb<K: Tally>(records: &mut [Record], tallies: &mut [K], places: u16, from: u16)
+pub(crate) fn climb<K: Tally>(records: &mut [Record], tallies: &mut [K], places: u16, from: Option<u16>)
     ensures run { tallies.new ≡ climbed K.Tally.joined K.Tally.neutral records.old places from tallies.old }
     ensures same { records.new ≡ records.old }
 {
-    let mut i = from;
+    let mut at = from;
     for _ in 0..places {
-        if i == NONE {
+        let Some(i) = at else {
             return;
-        }
+        };
         let r = read(records, i);
         renew(tallies, i, r.first, r.second);
-        i = r.parent;
+        at = r.parent;
     }
 }
 
@@ -51,7 +51,7 @@ fn rise<K: Tally>(records: &mut [Record], tallies: &mut [K], places: u16, from: 
 {
     let mut s = from;
     for _ in 0..places {
-        if read(records, s).parent == NONE {
+        if read(records, s).parent.is_none() {
             return s;
         }
         let v = nodes::settle::<K>(records, s);

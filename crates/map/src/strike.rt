@@ -7,7 +7,7 @@ ghost use Rattle.tables.specs.Removal.{root_above, struck_state, emptied_state};
 
 use crate::Map;
 use crate::renewal::climb;
-use records::{FourPlaces, NONE, Sinking};
+use records::{FourPlaces, Sinking};
 use tables::MapFault;
 use tally::Tally;
 
@@ -18,11 +18,10 @@ impl<'a, K: Tally> Map<'a, K> {
     {
         let mut i = from;
         for _ in 0..self.places {
-            let r = self.node(i);
-            if r.parent == NONE {
+            let Some(up) = self.node(i).parent else {
                 return i;
-            }
-            i = r.parent;
+            };
+            i = up;
         }
         i
     }
@@ -62,7 +61,7 @@ impl<'a, K: Tally> Map<'a, K> {
         let (Some(root), Some((leaf, r))) = (self.root, self.find(code)) else {
             return Err(MapFault::Absent);
         };
-        if r.parent == NONE {
+        if r.parent.is_none() {
             self.strike_last(leaf);
             return Ok(self.live);
         }

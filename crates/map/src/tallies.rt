@@ -8,7 +8,7 @@ ghost use Rattle.tables.specs.Tallies.{Answers};
 
 use crate::Map;
 use place::{Place, PlaceBox};
-use records::{Kind, NONE, Record};
+use records::{Kind, Record};
 use shape::Shape;
 use tables::{Position, Sight, Spot, Tallied};
 use tally::Tally;
@@ -78,10 +78,9 @@ impl<'a, K: Tally> Map<'a, K> {
     fn go_back(&self, node: u16) -> Position
         ensures value { result ≡ returned self.now.records.now (at self.now.records.now node).parent node }
     {
-        let parent = self.node(node).parent;
-        if parent == NONE {
+        let Some(parent) = self.node(node).parent else {
             return Position::Finished;
-        }
+        };
         let r = self.node(parent);
         if r.first == node {
             Position::Down(r.second)

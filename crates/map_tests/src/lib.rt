@@ -21,7 +21,7 @@ mod tests {
         inner: Some(USED_BOX),
         first: 1,
         second: 2,
-        parent: 3,
+        parent: Some(3),
         rank: Rank {
             priority: 4,
             code: 5,

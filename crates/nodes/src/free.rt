@@ -1,9 +1,10 @@
-//! The free places of a table: those never used, and a chain of those given back, each record naming the next.
+//! The free places of a table: those never used, and a chain of those given back, each record having the next as its
+//! parent.
 ghost use Rattle.std.specs.Prelude.{◌≡◌, ℕ, ◌+◌, ◌<◌, ◌≤◌, List, length};
 ghost use Rattle.records.specs.PlacedPairs.{four};
 ghost use Rattle.records.specs.Free.{next as next_of, left_after, four_taken, four_left, linked, given_back, four_linked, four_given, free_at, FreeIn, Opens, TakesOne, TakesFour, GivesOne, GivesFour};
 
-use records::{FourPlaces, FreePlaces, NONE, Record, read, write};
+use records::{FourPlaces, FreePlaces, Record, read, write};
 
 /// No place is used yet. Nothing is written.
 pub fn none_used() -> FreePlaces
@@ -11,7 +12,7 @@ pub fn none_used() -> FreePlaces
 {
     FreePlaces {
         fresh: 0,
-        freed: NONE,
+        freed: None,
     }
 }
 
@@ -19,10 +20,7 @@ pub fn none_used() -> FreePlaces
 pub fn next_free(free: FreePlaces) -> u16
     ensures value { result ≡ next_of free }
 {
-    if free.freed != NONE {
-        return free.freed;
-    }
-    free.fresh
+    free.freed.unwrap_or(free.fresh)
 }
 
 /// The free places once the next one is taken.
@@ -30,16 +28,15 @@ pub fn take(records: &[Record], free: FreePlaces) -> FreePlaces
     ensures value { result ≡ left_after records.now free }
     ensures stands { (N : ℕ) (spare : List ℕ) → FreeIn N records.now free spare → free.fresh < N + length spare → TakesOne N records.now free spare (next_of free) result }
 {
-    if free.freed != NONE {
-        let freed = read(records, free.freed).first;
-        return FreePlaces { freed, ..free };
-    }
-    if free.fresh == NONE {
-        return free;
-    }
-    FreePlaces {
-        fresh: free.fresh + 1,
-        ..free
+    match free.freed {
+        Some(place) => FreePlaces {
+            freed: read(records, place).parent,
+            ..free
+        },
+        None => FreePlaces {
+            fresh: free.fresh.saturating_add(1),
+            ..free
+        },
     }
 }
 
@@ -60,16 +57,17 @@ pub fn take_four(records: &[Record], free: FreePlaces) -> (FourPlaces, FreePlace
     (places, take(records, after_three))
 }
 
-/// Gives a place back: its record names the place that was given back before.
+/// Gives a place back: its record has the place that was given back before as its parent, which is a link that may be
+/// none.
 pub fn give(records: &mut [Record], free: FreePlaces, place: u16) -> FreePlaces
     ensures table { records.new ≡ linked records.old free place }
     ensures value { result ≡ given_back free place }
     ensures stands { (N : ℕ) (spare : List ℕ) → FreeIn N records.old free spare → place < N → free_at free spare place ≡ 0 → GivesOne N records.old records.new free spare place result }
 {
     let r = read(records, place);
-    write(records, place, r.with_first(free.freed));
+    write(records, place, r.with_parent(free.freed));
     FreePlaces {
-        freed: place,
+        freed: Some(place),
         ..free
     }
 }

@@ -34,7 +34,7 @@ mod tests {
         inner: None,
         first: NONE,
         second: NONE,
-        parent: NONE,
+        parent: None,
         rank: UNRANKED,
     };
 
@@ -49,10 +49,7 @@ mod tests {
     fn top(records: &[Record], i: u16) -> u16 {
         let mut at = i;
         for _ in 0..64 {
-            let up = read(records, at).parent;
-            if up != NONE {
-                at = up;
-            }
+            at = read(records, at).parent.unwrap_or(at);
         }
         at
     }
@@ -60,7 +57,7 @@ mod tests {
     fn rise(records: &mut [Record], s: u16) -> u16 {
         let mut at = s;
         for _ in 0..64 {
-            if read(records, at).parent != NONE {
+            if read(records, at).parent.is_some() {
                 at = settle::<u8>(records, at).top;
             }
         }
@@ -118,7 +115,7 @@ mod tests {
         let tree = enter(&mut table, tree, 0, 1);
         assert!(rt; holds(&table, tree, 0));
         assert_eq!(rt; read(&table, tree.root).rank.priority, 1);
-        assert_eq!(rt; read(&table, tree.root).parent, NONE);
+        assert_eq!(rt; read(&table, tree.root).parent, None);
     }
 
     #[test]
@@ -143,6 +140,6 @@ mod tests {
         assert_eq!(rt; fewer.free.fresh, 9);
         let again = enter(&mut table, fewer, 28, 3);
         assert_eq!(rt; again.free.fresh, 9);
-        assert_eq!(rt; again.free.freed, NONE);
+        assert_eq!(rt; again.free.freed, None);
     }
 }

@@ -7,7 +7,7 @@ ghost use Rattle.records.specs.Promises.{PlantsFirst, Plants};
 use crate::ordering::order;
 use place::PlaceBox;
 use quadtreap::{Rank, UNRANKED};
-use records::{BoxNumbers, FourPlaces, Kind, NONE, Record, read, relink, write};
+use records::{BoxNumbers, FourPlaces, Kind, Record, read, relink, write};
 
 /// Writes the first reading of an empty tree, which has a rank: a leaf over the whole square.
 /// The last reading needs no such call: the tree without it is empty, and nothing is written.
@@ -16,7 +16,7 @@ pub fn plant_first<K>(records: &mut [Record], at: u16, rank: Rank)
     ensures stands { PlantsFirst K records.old records.new at rank }
 {
     let whole = BoxNumbers::from(PlaceBox::whole());
-    let leaf = Record::leaf(Kind::Reading, whole, None, NONE, rank);
+    let leaf = Record::leaf(Kind::Reading, whole, None, None, rank);
     write(records, at, leaf);
 }
 
@@ -27,11 +27,11 @@ fn join_leaf(records: &mut [Record], i: u16, e: PlaceBox, rank: Rank, n: FourPla
     let ri = read(records, i);
     let near = BoxNumbers::half(e, ri.content().code);
     let far = BoxNumbers::half(e, rank.code);
-    let old = ri.with_outer(near).with_parent(n.split);
-    let new = Record::leaf(Kind::Reading, far, None, n.split, rank);
+    let old = ri.with_outer(near).with_parent(Some(n.split));
+    let new = Record::leaf(Kind::Reading, far, None, Some(n.split), rank);
     let on = BoxNumbers::from(e);
-    let rest = Record::leaf(Kind::Box, ri.outer, Some(on), n.shrink, UNRANKED);
-    let split = Record::node(Kind::Split, on, ri.inner, i, n.reading, n.shrink);
+    let rest = Record::leaf(Kind::Box, ri.outer, Some(on), Some(n.shrink), UNRANKED);
+    let split = Record::node(Kind::Split, on, ri.inner, i, n.reading, Some(n.shrink));
     let pair = Record::node(
         Kind::Shrink,
         ri.outer,

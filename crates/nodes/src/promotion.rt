@@ -20,10 +20,10 @@ pub fn promote_left<K>(records: &mut [Record], x: u16)
     let cut = rw.with_rank(UNRANKED).with_inner(Some(inner));
     let up = ry.with_outer(rx.outer).with_second(x);
     relink(records, rx.parent, x, rw.first);
-    write(records, x, down.with_parent(rw.first));
+    write(records, x, down.with_parent(Some(rw.first)));
     write(records, rx.first, cut.with_first(ry.second));
     write(records, rw.first, up.with_parent(rx.parent));
-    write(records, ry.second, ro.with_parent(rx.first));
+    write(records, ry.second, ro.with_parent(Some(rx.first)));
 }
 
 /// The outer child of the pair at `s` rises over it.
@@ -39,8 +39,8 @@ pub fn promote_outer<K>(records: &mut [Record], s: u16)
     let up = rx.with_inner(rs.inner);
     let cut = rw.with_inner(rs.inner);
     relink(records, rs.parent, s, rs.second);
-    write(records, s, down.with_parent(rx.first));
+    write(records, s, down.with_parent(Some(rx.first)));
     write(records, rs.second, up.with_parent(rs.parent));
     write(records, rx.first, cut.with_first(s));
-    write(records, rw.first, rl.with_parent(s));
+    write(records, rw.first, rl.with_parent(Some(s)));
 }

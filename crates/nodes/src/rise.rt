@@ -1,6 +1,6 @@
 //! One step up: a pair that was made earlier rises over the pair above it.
-ghost use Rattle.std.specs.Prelude.{◌≡◌};
-ghost use Rattle.records.specs.Writes.{earlier_in, settled_in};
+ghost use Rattle.std.specs.Prelude.{◌≡◌, Some};
+ghost use Rattle.records.specs.Writes.{earlier_in, settled_outside, settled_inside, settled_in};
 ghost use Rattle.records.specs.Promises.{Settles};
 
 use crate::ordering::order;
@@ -32,28 +32,31 @@ pub fn made_earlier(records: &[Record], a: u16, b: u16) -> bool
     x.ranks_before(y)
 }
 
-/// One step up from the pair at `s`: it rises over the pair above it if it was made earlier.
-pub fn settle<K>(records: &mut [Record], s: u16) -> Settled
-    ensures table { records.new ≡ (settled_in records.old s).table }
-    ensures top { result.top ≡ (settled_in records.old s).top }
-    ensures low { result.low ≡ (settled_in records.old s).low }
-    ensures stands { Settles K records.old records.new s result.top result.low }
+/// One step up from the pair at `s`, an outer child of the pair at `up`: it rises over that if it was made earlier.
+fn settle_outside<K>(records: &mut [Record], s: u16, up: u16) -> Settled
+    ensures table { records.new ≡ (settled_outside records.old s up).table }
+    ensures top { result.top ≡ (settled_outside records.old s up).top }
+    ensures low { result.low ≡ (settled_outside records.old s up).low }
 {
-    let up = read(records, s).parent;
-    let rp = read(records, up);
-    if rp.kind != Kind::Split {
-        if made_earlier(records, s, up) {
-            promote_outer::<K>(records, up);
-            order::<K>(records, s);
-            return Settled {
-                top: s,
-                low: Some(up),
-            };
-        }
-        return Settled { top: up, low: None };
+    if made_earlier(records, s, up) {
+        promote_outer::<K>(records, up);
+        order::<K>(records, s);
+        return Settled {
+            top: s,
+            low: Some(up),
+        };
     }
-    let x = rp.parent;
-    if rp.first == s && made_earlier(records, s, x) {
+    Settled { top: up, low: None }
+}
+
+/// One step up from the pair at `s`, a left or right child of the pair at `x`: it rises over that if it is the left one
+/// and was made earlier, and the pair on top is ordered.
+fn settle_inside<K>(records: &mut [Record], s: u16, is_left: bool, x: u16) -> Settled
+    ensures table { records.new ≡ (settled_inside records.old s is_left (Some x)).table }
+    ensures top { result.top ≡ (settled_inside records.old s is_left (Some x)).top }
+    ensures low { result.low ≡ (settled_inside records.old s is_left (Some x)).low }
+{
+    if is_left && made_earlier(records, s, x) {
         promote_left::<K>(records, x);
         order::<K>(records, s);
         return Settled {
@@ -63,4 +66,24 @@ pub fn settle<K>(records: &mut [Record], s: u16) -> Settled
     }
     order::<K>(records, x);
     Settled { top: x, low: None }
+}
+
+/// One step up from the pair at `s`: it rises over the pair above it, if there is one, if it was made earlier.
+pub fn settle<K>(records: &mut [Record], s: u16) -> Settled
+    ensures table { records.new ≡ (settled_in records.old s).table }
+    ensures top { result.top ≡ (settled_in records.old s).top }
+    ensures low { result.low ≡ (settled_in records.old s).low }
+    ensures stands { Settles K records.old records.new s result.top result.low }
+{
+    let Some(up) = read(records, s).parent else {
+        return Settled { top: s, low: None };
+    };
+    let rp = read(records, up);
+    if rp.kind != Kind::Split {
+        return settle_outside::<K>(records, s, up);
+    }
+    let Some(x) = rp.parent else {
+        return Settled { top: s, low: None };
+    };
+    settle_inside::<K>(records, s, rp.first == s, x)
 }

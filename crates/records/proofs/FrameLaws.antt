@@ -1,11 +1,12 @@
 -- Trees in a table: the frames around a tree, and what a few writes leave as it was.
-use Rattle.std.proofs.Common.{◌≡◌, ℕ, ◌+◌, ◌<◌, ◌≤◌, cond, ◌≢◌, List, [], ◌∷◌, length, set, sym, refl, ap, ◌∙◌, subst, inl, inr, arith, length-set, get_or-set_other, get_or-set_same}
+use Rattle.std.proofs.Common.{◌≡◌, ℕ, ◌+◌, ◌<◌, ◌≤◌, cond, ◌≢◌, List, [], ◌∷◌, length, set, sym, refl, ap, ◌∙◌, subst, inl, inr, arith, length-set, get_or-set_other, get_or-set_same, Some}
 use mathlib.Core.Option.{Option}
 use Rattle.std.proofs.lemmas.Bool.{eq-eqb, ne_eqb, cases_eq}
 use Rattle.records.specs.declared.record.Record.{Record}
 use Rattle.place.specs.Boxes.{Box}
 use Rattle.quadtreap.specs.Tree.{outer}
 use Rattle.quadtreap.specs.declared.rank.Rank.{Rank}
+use Rattle.records.specs.Links.{Link}
 use Rattle.records.specs.PlacedNodes.{NodeKind, shrinks, splits, kind_of, in_record, PlacedNodes, leaf_at, node_at, unplaced, grown, place_of, one, occurs, Shallow, Sized, numbers_of, carried, blank, record_of, Lies, NodesRecorded, LiesIn, NodeFrame, first, second, plug, above}
 use Rattle.records.specs.Writes.{at, Write, wrote}
 
@@ -59,16 +60,16 @@ module _ {K : Type 0} where
   root_occurs t = let k = one_same (place_of t) in let h = root_le t (place_of t) in omega arith
 
   -- the record of a root
-  pub root_lies : (recs : List Record) (p : ℕ) (t : PlacedNodes K) → NodesRecorded recs p t → Lies recs (place_of t) (record_of p t)
+  pub root_lies : (recs : List Record) (p : Link) (t : PlacedNodes K) → NodesRecorded recs p t → Lies recs (place_of t) (record_of p t)
   root_lies recs p (leaf_at q C c) h = h
   root_lies recs p (node_at k q r C g a b) h = h.0
 
-  pub root_outer : (p : ℕ) (t : PlacedNodes K) → (record_of p t).outer ≡ numbers_of (outer (unplaced t))
+  pub root_outer : (p : Link) (t : PlacedNodes K) → (record_of p t).outer ≡ numbers_of (outer (unplaced t))
   root_outer p (leaf_at q C c) = refl
   root_outer p (node_at k q r C g a b) =
       elim k as (λ v. numbers_of C ≡ numbers_of (outer (grown v C g (unplaced a) (unplaced b)))) [ shrinks ↦ refl | splits ↦ refl ]
 
-  pub root_rank : (p : ℕ) (t : PlacedNodes K) → (record_of p t).rank ≡ carried t
+  pub root_rank : (p : Link) (t : PlacedNodes K) → (record_of p t).rank ≡ carried t
   root_rank p (leaf_at q C c) = refl
   root_rank p (node_at k q r C g a b) = refl
 
@@ -78,14 +79,14 @@ module _ {K : Type 0} where
       elim k as (λ v. (outer (grown v C g (unplaced a) (unplaced b))).depth ≤ 32) [ shrinks ↦ h.0 | splits ↦ h.0 ]
 
   -- a tree lies in every table that has the same at its places
-  pub same_nodes : (recs recs' : List Record) → length recs' ≡ length recs → (p : ℕ) (t : PlacedNodes K) → ((i : ℕ) → 1 ≤ occurs i t → at recs' i ≡ at recs i) → NodesRecorded recs p t → NodesRecorded recs' p t
+  pub same_nodes : (recs recs' : List Record) → length recs' ≡ length recs → (p : Link) (t : PlacedNodes K) → ((i : ℕ) → 1 ≤ occurs i t → at recs' i ≡ at recs i) → NodesRecorded recs p t → NodesRecorded recs' p t
   same_nodes recs recs' len p (leaf_at q C c) agree h =
       let k = one_same q in record { within = subst (λ n. q < n) (sym len) h.within; reads = agree q (omega arith) ∙ h.reads }
   same_nodes recs recs' len p (node_at k q r C g a b) agree h =
       let o = one_same q in (
         record { within = subst (λ n. q < n) (sym len) h.0.within; reads = agree q (omega arith) ∙ h.0.reads },
-        same_nodes recs recs' len q a (λ i some. agree i (omega arith)) h.1,
-        same_nodes recs recs' len q b (λ i some. agree i (omega arith)) h.2,
+        same_nodes recs recs' len (Some q) a (λ i some. agree i (omega arith)) h.1,
+        same_nodes recs recs' len (Some q) b (λ i some. agree i (omega arith)) h.2,
       )
 
   -- the frames
@@ -96,8 +97,8 @@ module _ {K : Type 0} where
 
   abbrev pub Around : List Record → ℕ → List (NodeFrame K) → Type 0
   Around recs x [] = Unit {0}
-  Around recs x (first k p r C g b ∷ f) = Lies recs p (in_record (kind_of k) C g x (place_of b) (above f) r) × NodesRecorded recs p b × Around recs p f
-  Around recs x (second k p r C g a ∷ f) = Lies recs p (in_record (kind_of k) C g (place_of a) x (above f) r) × NodesRecorded recs p a × Around recs p f
+  Around recs x (first k p r C g b ∷ f) = Lies recs p (in_record (kind_of k) C g x (place_of b) (above f) r) × NodesRecorded recs (Some p) b × Around recs p f
+  Around recs x (second k p r C g a ∷ f) = Lies recs p (in_record (kind_of k) C g (place_of a) x (above f) r) × NodesRecorded recs (Some p) a × Around recs p f
 
   abbrev pub AllSized : List (NodeFrame K) → Type 0
   AllSized [] = Unit {0}
@@ -192,12 +193,12 @@ module _ {K : Type 0} where
   same_frames recs recs' len x (first k p r C g b ∷ f) agree h =
       let o = one_same p in (
         record { within = subst (λ n. p < n) (sym len) h.0.within; reads = agree p (omega arith) ∙ h.0.reads },
-        same_nodes recs recs' len p b (λ i some. agree i (omega arith)) h.1,
+        same_nodes recs recs' len (Some p) b (λ i some. agree i (omega arith)) h.1,
         same_frames recs recs' len p f (λ i some. agree i (omega arith)) h.2,
       )
   same_frames recs recs' len x (second k p r C g a ∷ f) agree h =
       let o = one_same p in (
         record { within = subst (λ n. p < n) (sym len) h.0.within; reads = agree p (omega arith) ∙ h.0.reads },
-        same_nodes recs recs' len p a (λ i some. agree i (omega arith)) h.1,
+        same_nodes recs recs' len (Some p) a (λ i some. agree i (omega arith)) h.1,
         same_frames recs recs' len p f (λ i some. agree i (omega arith)) h.2,
       )

@@ -1,14 +1,16 @@
 -- A free place is taken, and a place is given back.
-use Rattle.std.proofs.Common.{◌≡◌, ℕ, ◌+◌, ◌<◌, ◌≤◌, min, true, false, cond, eqb, ◌≢◌, List, [], ◌∷◌, length, sym, refl, ap, ◌∙◌, subst, inl, inr, arith, length-set, get_or-set_other, get_or-set_same}
-use Rattle.std.proofs.lemmas.Bool.{eq-eqb, ne_eqb, cases_lt, cases_eq, le-leb, lt-leb}
+use Rattle.std.proofs.Common.{◌≡◌, ℕ, ◌+◌, ◌<◌, ◌≤◌, min, cond, List, [], ◌∷◌, length, sym, refl, ap, ◌∙◌, subst, inl, inr, arith, length-set, get_or-set_other, get_or-set_same, None, Some}
+use Rattle.std.specs.Option.{unwrap_or}
+use Rattle.std.proofs.lemmas.Bool.{cases_lt, cases_eq, le-leb, lt-leb}
 use Rattle.records.specs.declared.record.Record.{Record}
 use Rattle.records.specs.declared.places.FourPlaces.{FourPlaces}
 use Rattle.records.specs.declared.places.FreePlaces.{FreePlaces}
+use Rattle.records.specs.Links.{Link}
 use Rattle.records.specs.PlacedNodes.{one, blank}
-use Rattle.records.specs.Writes.{at, with_first}
+use Rattle.records.specs.Writes.{at, with_parent}
 use Rattle.records.specs.PlacedPairs.{four}
 use Rattle.records.specs.Elsewhere.{Elsewhere}
-use Rattle.records.specs.Free.{next, left_after, four_taken, four_left, linked, given_back, four_linked, four_given, among, unused, free_at, Chain, FreeIn, Opens, TakesOne, TakesFour, GivesOne, GivesFour}
+use Rattle.records.specs.Free.{next, left_of, left_after, four_taken, four_left, linked, given_back, four_linked, four_given, among, unused, free_at, Chain, FreeIn, Opens, TakesOne, TakesFour, GivesOne, GivesFour}
 use Rattle.records.proofs.FrameLaws.{one_same, one_not, differ}
 
 -- places that were never used
@@ -34,7 +36,7 @@ unused_next fresh j =
           ]
     ]
 
-pub opens : Opens (record { fresh = 0; freed = 65535 })
+pub opens : Opens (record { fresh = 0; freed = None })
 opens N recs room small = (
   record { chain = refl; inside = λ j l. refl; fits = omega arith; room = room; small = small },
   λ j. let a : unused 0 j ≡ 1 = ap (λ b. cond {A = ℕ} b 1 0) (le-leb 0 j (omega arith)) in omega arith,
@@ -43,12 +45,10 @@ opens N recs room small = (
 -- If any place is free, one is taken.
 pub takes : (N : ℕ) (recs : List Record) (f : FreePlaces) (spare : List ℕ) → FreeIn N recs f spare → f.fresh < N + length spare → TakesOne N recs f spare (next f) (left_after recs f)
 takes N recs f [] h some' =
-    let e : eqb f.freed 65535 ≡ true = eq-eqb f.freed 65535 h.chain in
     let s = h.small in
     let low : min (f.fresh + 1) 65535 ≡ f.fresh + 1 = omega arith in
-    let left' : ℕ → FreePlaces = λ n. record { fresh = n; freed = 65535 } in
-    subst (λ b. TakesOne N recs f [] (cond b f.fresh f.freed) (cond b (left' (min (f.fresh + 1) 65535)) (record { fresh = f.fresh; freed = (at recs f.freed).first }))) (sym e)
-    (subst (λ n. TakesOne N recs f [] f.fresh (left' n)) (sym low)
+    subst (λ l. TakesOne N recs f [] (unwrap_or l f.fresh) (left_of recs f.fresh l)) (sym h.chain)
+    (subst (λ (n : ℕ). TakesOne N recs f [] f.fresh (record { fresh = n; freed = None })) (sym low)
     record {
       left = [];
       free = record { chain = refl; inside = h.inside; fits = omega arith; room = h.room; small = h.small };
@@ -60,18 +60,14 @@ takes N recs f (p ∷ ps) h some' =
     let o = one_same p in
     let s = h.small in
     let below' : p < N = elim (cases_lt p N) [ inl l ↦ l | inr l ↦ let z = h.inside p l in absurd (omega arith) ] in
-    let is : f.freed ≡ p = h.chain.0 in
-    let e : eqb f.freed 65535 ≡ false = ne_eqb f.freed 65535 (λ z. omega arith) in
-    let left' : ℕ → FreePlaces = λ q. record { fresh = f.fresh; freed = (at recs q).first } in
-    subst (λ b. TakesOne N recs f (p ∷ ps) (cond b f.fresh f.freed) (cond b (record { fresh = min (f.fresh + 1) 65535; freed = 65535 }) (left' f.freed))) (sym e)
-    (subst (λ q. TakesOne N recs f (p ∷ ps) q (left' q)) (sym is)
+    subst (λ l. TakesOne N recs f (p ∷ ps) (unwrap_or l f.fresh) (left_of recs f.fresh l)) (sym h.chain.0)
     record {
       left = ps;
       free = record { chain = h.chain.1; inside = λ j l. let z = h.inside j l in omega arith; fits = h.fits; room = h.room; small = h.small };
       places = λ j. omega arith;
       count = omega arith;
       below = below';
-    })
+    }
 
 -- If four places are free, four are taken.
 pub takes_four : (N : ℕ) (recs : List Record) (f : FreePlaces) (spare : List ℕ) → FreeIn N recs f spare → 4 + f.fresh ≤ N + length spare → TakesFour N recs f spare (four_taken recs f) (four_left recs f)
@@ -96,12 +92,12 @@ takes_four N recs f spare h some' =
     }
 
 -- The chain stays where its records stay.
-pub chain_on : (used : ℕ → ℕ) (recs recs' : List Record) → Elsewhere used recs recs' → (head : ℕ) (spare : List ℕ) → ((j : ℕ) → 1 ≤ among j spare → used j ≡ 0) → Chain recs head spare → Chain recs' head spare
+pub chain_on : (used : ℕ → ℕ) (recs recs' : List Record) → Elsewhere used recs recs' → (head : Link) (spare : List ℕ) → ((j : ℕ) → 1 ≤ among j spare → used j ≡ 0) → Chain recs head spare → Chain recs' head spare
 chain_on used recs recs' same head [] off h = h
 chain_on used recs recs' same head (p ∷ ps) off h =
     let o = one_same p in (
       h.0,
-      chain_on used recs recs' same (at recs' p).first ps (λ j z. off j (omega arith)) (subst (λ (r : Record). Chain recs r.first ps) (sym (same.reads p (off p (omega arith)))) h.1),
+      chain_on used recs recs' same (at recs' p).parent ps (λ j z. off j (omega arith)) (subst (λ (r : Record). Chain recs r.parent ps) (sym (same.reads p (off p (omega arith)))) h.1),
     )
 
 pub linked_same : (recs : List Record) (f : FreePlaces) (i : ℕ) → Elsewhere (λ j. one j i) recs (linked recs f i)
@@ -114,9 +110,8 @@ gives N recs f spare i h low busy =
     let s = h.small in
     let within : i < length recs = omega arith in
     let recs' : List Record = linked recs f i in
-    let named : (at recs' i).first ≡ f.freed = ap (λ (v : Record). v.first) (get_or-set_same recs i (with_first (at recs i) f.freed) blank within) in
+    let named : (at recs' i).parent ≡ f.freed = ap (λ (v : Record). v.parent) (get_or-set_same recs i (with_parent (at recs i) f.freed) blank within) in
     let far : (j : ℕ) → 1 ≤ among j spare → one j i ≡ 0 = λ j z. one_not j i (λ e. let k = ap (λ m. among m spare) e in absurd (omega arith)) in
-    let here : eqb i 65535 ≡ false = ne_eqb i 65535 (λ z. omega arith) in
     record {
       free = record {
         chain = (refl, subst (λ m. Chain recs' m spare) (sym named) (chain_on _ recs recs' (linked_same recs f i) f.freed spare far h.chain));
@@ -126,56 +121,43 @@ gives N recs f spare i h low busy =
         small = h.small;
       };
       places = λ j. omega arith;
-      served = ap (λ b. cond b f.fresh i) here;
-      back =
-          ap (λ b. cond b (record { fresh = min (f.fresh + 1) 65535; freed = 65535 }) (record { fresh = f.fresh; freed = (at recs' i).first })) here
-          ∙ ap (λ (m : ℕ). record { fresh = f.fresh; freed = m }) named;
+      served = refl;
+      back = ap (λ (m : Link). record { fresh = f.fresh; freed = m }) named;
       same = linked_same recs f i;
     }
 
 -- Two chains of the same places begin with the same place.
-one_head : (a b : List Record) (x y : ℕ) (spare : List ℕ) → Chain a x spare → Chain b y spare → x ≡ y
+one_head : (a b : List Record) (x y : Link) (spare : List ℕ) → Chain a x spare → Chain b y spare → x ≡ y
 one_head a b x y [] p q = p ∙ sym q
 one_head a b x y (z ∷ zs) p q = p.0 ∙ sym q.0
 
 module _ (recs : List Record) (fresh : ℕ) where
-  abbrev at_head : ℕ → FreePlaces
+  abbrev at_head : Link → FreePlaces
   at_head q = record { fresh = fresh; freed = q }
 
-  next_is : (q : ℕ) → q < 65535 → next (at_head q) ≡ q
-  next_is q low = ap (λ b. cond b fresh q) (ne_eqb q 65535 (λ e. omega arith))
-
-  left_is : (q q' : ℕ) → q < 65535 → (at recs q).first ≡ q' → left_after recs (at_head q) ≡ at_head q'
-  left_is q q' low names =
-      ap (λ b. cond b (record { fresh = min (fresh + 1) 65535; freed = 65535 }) (at_head (at recs q).first)) (ne_eqb q 65535 (λ e. omega arith))
-      ∙ ap (λ (m : ℕ). at_head m) names
+  left_is : (q : ℕ) (q' : Link) → (at recs q).parent ≡ q' → left_after recs (at_head (Some q)) ≡ at_head q'
+  left_is q q' names = ap at_head names
 
   -- Four places at the head of the chain are the next four.
-  module _ (n : FourPlaces) (last : ℕ) (s : n.shrink < 65535) (w : n.split < 65535) (r : n.reading < 65535) (o : n.outer < 65535)
-      (es : (at recs n.shrink).first ≡ n.split) (ew : (at recs n.split).first ≡ n.reading) (er : (at recs n.reading).first ≡ n.outer) (eo : (at recs n.outer).first ≡ last) where
-    one_left : left_after recs (at_head n.shrink) ≡ at_head n.split
-    one_left = left_is n.shrink n.split s es
+  module _ (n : FourPlaces) (last : Link) (es : (at recs n.shrink).parent ≡ Some n.split) (ew : (at recs n.split).parent ≡ Some n.reading) (er : (at recs n.reading).parent ≡ Some n.outer) (eo : (at recs n.outer).parent ≡ last) where
+    one_left : left_after recs (at_head (Some n.shrink)) ≡ at_head (Some n.split)
+    one_left = left_is n.shrink (Some n.split) es
 
-    two_left : left_after recs (left_after recs (at_head n.shrink)) ≡ at_head n.reading
-    two_left = ap (left_after recs) one_left ∙ left_is n.split n.reading w ew
+    two_left : left_after recs (left_after recs (at_head (Some n.shrink))) ≡ at_head (Some n.reading)
+    two_left = ap (left_after recs) one_left ∙ left_is n.split (Some n.reading) ew
 
-    three_left : left_after recs (left_after recs (left_after recs (at_head n.shrink))) ≡ at_head n.outer
-    three_left = ap (left_after recs) two_left ∙ left_is n.reading n.outer r er
+    three_left : left_after recs (left_after recs (left_after recs (at_head (Some n.shrink)))) ≡ at_head (Some n.outer)
+    three_left = ap (left_after recs) two_left ∙ left_is n.reading (Some n.outer) er
 
-    four_back : four_left recs (at_head n.shrink) ≡ at_head last
-    four_back = ap (left_after recs) three_left ∙ left_is n.outer last o eo
+    four_back : four_left recs (at_head (Some n.shrink)) ≡ at_head last
+    four_back = ap (left_after recs) three_left ∙ left_is n.outer last eo
 
-    four_served : four_taken recs (at_head n.shrink) ≡ n
+    four_served : four_taken recs (at_head (Some n.shrink)) ≡ n
     four_served =
-        let F : ℕ → FreePlaces → FreePlaces → FreePlaces → FourPlaces = λ a f1 f2 f3. record { shrink = a; split = next f1; reading = next f2; outer = next f3 } in
-        let G : ℕ → ℕ → ℕ → ℕ → FourPlaces = λ a b c d. record { shrink = a; split = b; reading = c; outer = d } in
-        ap (λ f3. F (next (at_head n.shrink)) (left_after recs (at_head n.shrink)) (left_after recs (left_after recs (at_head n.shrink))) f3) three_left
-        ∙ ap (λ f2. F (next (at_head n.shrink)) (left_after recs (at_head n.shrink)) f2 (at_head n.outer)) two_left
-        ∙ ap (λ f1. F (next (at_head n.shrink)) f1 (at_head n.reading) (at_head n.outer)) one_left
-        ∙ ap (λ a. G a (next (at_head n.split)) (next (at_head n.reading)) (next (at_head n.outer))) (next_is n.shrink s)
-        ∙ ap (λ b. G n.shrink b (next (at_head n.reading)) (next (at_head n.outer))) (next_is n.split w)
-        ∙ ap (λ c. G n.shrink n.split c (next (at_head n.outer))) (next_is n.reading r)
-        ∙ ap (λ d. G n.shrink n.split n.reading d) (next_is n.outer o)
+        let F : FreePlaces → FreePlaces → FreePlaces → FourPlaces = λ f1 f2 f3. record { shrink = n.shrink; split = next f1; reading = next f2; outer = next f3 } in
+        ap (λ f3. F (left_after recs (at_head (Some n.shrink))) (left_after recs (left_after recs (at_head (Some n.shrink)))) f3) three_left
+        ∙ ap (λ f2. F (left_after recs (at_head (Some n.shrink))) f2 (at_head (Some n.outer))) two_left
+        ∙ ap (λ f1. F f1 (at_head (Some n.reading)) (at_head (Some n.outer))) one_left
 
 -- Four places that are not free are given back.
 pub gives_four : (N : ℕ) (recs : List Record) (f : FreePlaces) (spare : List ℕ) (n : FourPlaces) → FreeIn N recs f spare → n.shrink < N → n.split < N → n.reading < N → n.outer < N
@@ -202,28 +184,17 @@ gives_four N recs f spare n h s w r o apart =
     let g4 = gives N t3 f3 (n.split ∷ n.reading ∷ n.outer ∷ spare) n.shrink g3.free s (omega arith) in
     let all = g4.free.chain in
     let recs' : List Record = four_linked recs f n in
-    let last : (at recs' n.outer).first ≡ f.freed = one_head recs' recs _ f.freed spare all.1.1.1.1 h.chain in
+    let last : (at recs' n.outer).parent ≡ f.freed = one_head recs' recs _ f.freed spare all.1.1.1.1 h.chain in
     record {
       free = g4.free;
       places = λ j. omega arith;
-      served = four_served recs' f.fresh n f.freed (omega arith) (omega arith) (omega arith) (omega arith) all.1.0 all.1.1.0 all.1.1.1.0 last;
-      back = four_back recs' f.fresh n f.freed (omega arith) (omega arith) (omega arith) (omega arith) all.1.0 all.1.1.0 all.1.1.1.0 last;
+      served = four_served recs' f.fresh n f.freed all.1.0 all.1.1.0 all.1.1.1.0 last;
+      back = four_back recs' f.fresh n f.freed all.1.0 all.1.1.0 all.1.1.1.0 last;
       same = record {
         long = g4.same.long ∙ g3.same.long ∙ g2.same.long ∙ g1.same.long;
         reads = λ j z. g4.same.reads j (omega arith) ∙ g3.same.reads j (omega arith) ∙ g2.same.reads j (omega arith) ∙ g1.same.reads j (omega arith);
       };
     }
-
--- What is left, by the test that the code makes.
-pub left_given : (recs : List Record) (f : FreePlaces) (r : Record) → r ≡ at recs f.freed → f.freed ≢ 65535 → record { fresh = f.fresh; freed = r.first } ≡ left_after recs f
-left_given recs f r is some' =
-    ap (λ (v : Record). record { fresh = f.fresh; freed = v.first }) is
-    ∙ sym (ap (λ b. cond b (record { fresh = min (f.fresh + 1) 65535; freed = 65535 }) (record { fresh = f.fresh; freed = (at recs f.freed).first })) (ne_eqb f.freed 65535 some'))
-
-pub left_fresh : (recs : List Record) (f : FreePlaces) (n : ℕ) → f.freed ≡ 65535 → n ≡ min (f.fresh + 1) 65535 → record { fresh = n; freed = f.freed } ≡ left_after recs f
-left_fresh recs f n none' is =
-    ap (λ (m : ℕ). record { fresh = m; freed = f.freed }) is ∙ ap (λ (m : ℕ). record { fresh = min (f.fresh + 1) 65535; freed = m }) none'
-    ∙ sym (ap (λ b. cond b (record { fresh = min (f.fresh + 1) 65535; freed = 65535 }) (record { fresh = f.fresh; freed = (at recs f.freed).first })) (eq-eqb f.freed 65535 none'))
 
 -- The same of what is known to be what a function makes.
 pub take_lifts : (recs : List Record) (f g : FreePlaces) → g ≡ left_after recs f → (N : ℕ) (spare : List ℕ) → FreeIn N recs f spare → f.fresh < N + length spare → TakesOne N recs f spare (next f) g

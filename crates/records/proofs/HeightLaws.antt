@@ -1,7 +1,8 @@
 -- The height that the records tell is that of the tree that lies in them.
-use Rattle.std.proofs.Common.{◌≡◌, ℕ, zero, suc, ◌-◌, ◌<◌, ◌≤◌, max, true, false, cond, List, sym, refl, ap, ◌∙◌, subst, arith}
+use Rattle.std.proofs.Common.{◌≡◌, ℕ, zero, suc, ◌-◌, ◌<◌, ◌≤◌, max, true, false, cond, List, sym, refl, ap, ◌∙◌, subst, arith, None, Some}
 use Rattle.records.specs.declared.record.Record.{Record}
 use Rattle.quadtreap.specs.Tree.{Content, reading, box, nodes, height}
+use Rattle.records.specs.Links.{Link}
 use Rattle.records.specs.Kinds.{is_leaf}
 use Rattle.records.specs.PlacedNodes.{PlacedNodes, leaf_at, node_at, shrinks, splits, unplaced, place_of, leaf_kind, NodesRecorded}
 use Rattle.records.specs.Writes.{at}
@@ -43,16 +44,16 @@ module _ (recs : List Record) where
       sym (at_node n recs i some (subst (λ (v : Record). is_leaf v.kind ≡ false) is high)
       ∙ over_both (n - 1) i r.first r.second a b (ap (λ (v : Record). v.first) (sym is)) (ap (λ (v : Record). v.second) (sym is)) (sym ha) (sym hb))
 
-  pub of_nodes_of : {K : Type 0} (t : PlacedNodes K) (p n : ℕ) → NodesRecorded recs p t → nodes (unplaced t) ≤ n → height_in n recs (place_of t) ≡ height (unplaced t)
+  pub of_nodes_of : {K : Type 0} (t : PlacedNodes K) (p : Link) (n : ℕ) → NodesRecorded recs p t → nodes (unplaced t) ≤ n → height_in n recs (place_of t) ≡ height (unplaced t)
   of_nodes_of (leaf_at q C c) p n h few = at_leaf n recs q (subst (λ (r : Record). is_leaf r.kind ≡ true) (sym h.reads) (leaf_low c))
   of_nodes_of (node_at shrinks q r C g a b) p n h few =
       at_node n recs q (omega arith) (ap (λ (v : Record). is_leaf v.kind) h.0.reads)
       ∙ over_both (n - 1) q (place_of a) (place_of b) (height (unplaced a)) (height (unplaced b)) (ap (λ (v : Record). v.first) h.0.reads) (ap (λ (v : Record). v.second) h.0.reads)
-      (of_nodes_of a q (n - 1) h.1 (omega arith)) (of_nodes_of b q (n - 1) h.2 (omega arith))
+      (of_nodes_of a (Some q) (n - 1) h.1 (omega arith)) (of_nodes_of b (Some q) (n - 1) h.2 (omega arith))
   of_nodes_of (node_at splits q r C g a b) p n h few =
       at_node n recs q (omega arith) (ap (λ (v : Record). is_leaf v.kind) h.0.reads)
       ∙ over_both (n - 1) q (place_of a) (place_of b) (height (unplaced a)) (height (unplaced b)) (ap (λ (v : Record). v.first) h.0.reads) (ap (λ (v : Record). v.second) h.0.reads)
-      (of_nodes_of a q (n - 1) h.1 (omega arith)) (of_nodes_of b q (n - 1) h.2 (omega arith))
+      (of_nodes_of a (Some q) (n - 1) h.1 (omega arith)) (of_nodes_of b (Some q) (n - 1) h.2 (omega arith))
 
 pub height_lifts : (K : Type 0) (recs : List Record) (i n r : ℕ) → r ≡ height_in n recs i → Heights K recs i n r
-height_lifts K recs i n r e t kept top few = e ∙ ap (height_in n recs) top ∙ of_nodes_of recs (nodes_of t) 65535 n kept.laid few
+height_lifts K recs i n r e t kept top few = e ∙ ap (height_in n recs) top ∙ of_nodes_of recs (nodes_of t) None n kept.laid few

@@ -1,5 +1,5 @@
 -- A leaf becomes a pair.
-use Rattle.std.proofs.Common.{◌≡◌, ℕ, suc, ◌+◌, ◌<◌, ◌≤◌, min, List, [], ◌∷◌, length, sym, ap, ◌∙◌, subst, arith}
+use Rattle.std.proofs.Common.{◌≡◌, ℕ, suc, ◌+◌, ◌<◌, ◌≤◌, min, List, [], ◌∷◌, length, sym, ap, ◌∙◌, subst, arith, Some}
 use mathlib.Core.Option.{none, some}
 use Rattle.records.specs.declared.record.BoxNumbers.{BoxNumbers}
 use Rattle.records.specs.declared.record.Record.{Record}
@@ -34,10 +34,10 @@ module _ {K : Type 0} (recs : List Record) (f : List (NodeFrame K)) (i : ℕ) (C
   -- The writes of a new pair, with halves of depth m.
   abbrev halved_writes : ℕ → Content K → List Write
   halved_writes m c =
-      write i (in_record (leaf_kind c) (cut m (extent c).code) (box_in c) 65535 65535 n.split (leaf_rank c))
-      ∷ write n.reading (in_record ReadingKind (cut m p.code) none 65535 65535 n.split (rank_of p))
-      ∷ write n.outer (in_record BoxKind C (some (new_box c)) 65535 65535 n.shrink unranked)
-      ∷ write n.split (in_record Split (new_box c) (box_in c) i n.reading n.shrink unranked)
+      write i (in_record (leaf_kind c) (cut m (extent c).code) (box_in c) 65535 65535 (Some n.split) (leaf_rank c))
+      ∷ write n.reading (in_record ReadingKind (cut m p.code) none 65535 65535 (Some n.split) (rank_of p))
+      ∷ write n.outer (in_record BoxKind C (some (new_box c)) 65535 65535 (Some n.shrink) unranked)
+      ∷ write n.split (in_record Split (new_box c) (box_in c) i n.reading (Some n.shrink) unranked)
       ∷ write n.shrink (in_record Shrink C (box_in c) n.split n.outer (above f) unranked)
       ∷ []
 
@@ -76,7 +76,7 @@ module _ {K : Type 0} (recs : List Record) (f : List (NodeFrame K)) (i : ℕ) (C
             ),
             land n.outer _ (there (there here)) free.outer,
           );
-          around = holds_on recs f i n.shrink ws new (λ j. let q = h.once j in omega arith) (λ j u. let q = h.low j u in omega arith) h.around;
+          around = holds_on recs f i n.shrink ws new (λ j. let q = h.once j in omega arith) h.around;
           once = λ j. let q = new j in omega arith;
           low = λ j u. let q = h.low j u in let z = free.low j u in omega arith;
           sized = (

@@ -4,6 +4,7 @@ use Rattle.records.specs.declared.record.Record.{Record}
 use Rattle.records.specs.declared.places.FourPlaces.{FourPlaces}
 use Rattle.quadtreap.specs.declared.rank.Rank.{Rank}
 use Rattle.quadtreap.specs.Rank.{rank_of}
+use Rattle.records.specs.Links.{Link}
 use Rattle.records.specs.PlacedNodes.{splits, node_at, one, occurs, blank, LiesIn}
 use Rattle.records.specs.Writes.{promoted_left, promoted_outer, ordered_in, settled_in, descended, planted, first_planted}
 use Rattle.records.specs.PlacedPairs.{placed_leaf, placed_pair, nodes_of, top_place, put_in_all, node_frames, ordered_at, planted_at, Free, four}
@@ -119,7 +120,7 @@ plant_lifts K recs exit i q n e = subst (λ t. Plants K recs t i q n) (sym e) (i
 pub plant_first_lifts : (K : Type 0) (recs exit : List Record) (i : ℕ) (q : Rank) → exit ≡ first_planted recs i q → PlantsFirst K recs exit i q
 plant_first_lifts K recs exit i q e = subst (λ t. PlantsFirst K recs t i q) (sym e) (is_planted_first K recs i q)
 
-pub settle_lifts : (K : Type 0) (recs exit : List Record) (s top : ℕ) (low : Rattle.std.specs.Prelude.Option ℕ) → exit ≡ (settled_in recs s).table → top ≡ (settled_in recs s).top → low ≡ (settled_in recs s).low → Settles K recs exit s top low
+pub settle_lifts : (K : Type 0) (recs exit : List Record) (s top : ℕ) (low : Link) → exit ≡ (settled_in recs s).table → top ≡ (settled_in recs s).top → low ≡ (settled_in recs s).low → Settles K recs exit s top low
 settle_lifts K recs exit s top low e e' e'' =
     subst (λ t. Settles K recs t s top low) (sym e)
     (subst (λ t. Settles K recs (settled_in recs s).table s t low) (sym e')

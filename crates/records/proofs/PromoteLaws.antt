@@ -1,5 +1,5 @@
 -- The promotions and the order of a pair in the table are those of the tree with its places.
-use Rattle.std.proofs.Common.{◌≡◌, ℕ, ◌+◌, ◌<◌, ◌≤◌, true, false, cond, ltb, List, [], ◌∷◌, length, sym, ap, ◌∙◌, subst, arith}
+use Rattle.std.proofs.Common.{◌≡◌, ℕ, ◌+◌, ◌<◌, ◌≤◌, true, false, cond, List, [], ◌∷◌, length, sym, ap, ◌∙◌, subst, arith, Some}
 use mathlib.Core.Option.{Option, none, some}
 use Rattle.records.specs.declared.record.Record.{Record}
 use Rattle.records.specs.declared.record.BoxNumbers.{BoxNumbers}
@@ -9,6 +9,7 @@ use Rattle.quadtreap.specs.Tree.{outer}
 use Rattle.quadtreap.specs.declared.rank.Rank.{Rank}
 use Rattle.quadtreap.specs.Rank.{earlier}
 use Rattle.quadtreap.specs.Pairs.{unranked}
+use Rattle.records.specs.Links.{Link}
 use Rattle.records.specs.PlacedNodes.{shrinks, in_record, inner_numbers, numbers_of, PlacedNodes, node_at, pair_at, ordered_nodes, carried, unplaced, place_of, occurs, Lies, NodesRecorded, NodeFrame, above}
 use Rattle.records.specs.Writes.{at, Write, write, wrote, with_parent, relinked, promoted_left, promoted_outer, ranked, swapped, ordered_in}
 use Rattle.records.proofs.FrameLaws.{touched, In, here, there, root_le, root_lies, root_outer, root_rank, root_sized, occurs_around, LiesAmong}
@@ -19,10 +20,10 @@ module _ {K : Type 0} (recs : List Record) (f : List (NodeFrame K)) where
   module _ (x w y : ℕ) (r q : Rank) (C E B : Box) (i k : Option Box) (P o R O : PlacedNodes K) (h : LiesAmong recs f (pair_at x w r C i E (node_at shrinks y q B k P o) R O)) where
     abbrev pub left_writes : List Write
     left_writes =
-        write x (in_record Shrink C (some (outer (unplaced P))) w (place_of O) y unranked)
-        ∷ write w (in_record Split E (some (outer (unplaced P))) (place_of o) (place_of R) x unranked)
+        write x (in_record Shrink C (some (outer (unplaced P))) w (place_of O) (Some y) unranked)
+        ∷ write w (in_record Split E (some (outer (unplaced P))) (place_of o) (place_of R) (Some x) unranked)
         ∷ write y (in_record Shrink C k (place_of P) x (above f) q)
-        ∷ write (place_of o) (with_parent (at recs (place_of o)) w)
+        ∷ write (place_of o) (with_parent (at recs (place_of o)) (Some w))
         ∷ []
 
     pub left_computes : promoted_left recs x ≡ wrote left_writes (relinked recs (above f) x y)
@@ -30,7 +31,7 @@ module _ {K : Type 0} (recs : List Record) (f : List (NodeFrame K)) where
         let e1 = h.laid.0.reads in
         let e2 = h.laid.1.0.reads in
         let e3 = h.laid.1.1.0.reads in
-        let e4 : (at recs (place_of P)).outer ≡ numbers_of (outer (unplaced P)) = ap (λ (r : Record). r.outer) (root_lies recs y P h.laid.1.1.1).reads ∙ root_outer y P in
+        let e4 : (at recs (place_of P)).outer ≡ numbers_of (outer (unplaced P)) = ap (λ (r : Record). r.outer) (root_lies recs (Some y) P h.laid.1.1.1).reads ∙ root_outer (Some y) P in
         simp (e1, e2, e3, e4)
 
     left_apart : (j : ℕ) → touched j left_writes + occurs_around j f ≤ 1
@@ -40,24 +41,24 @@ module _ {K : Type 0} (recs : List Record) (f : List (NodeFrame K)) where
     rises_left =
         let l = h.laid in
         let s = h.sized in
-        let stay : (p : ℕ) (t : PlacedNodes K) → ((j : ℕ) → occurs j t + (touched j left_writes + occurs_around j f) ≤ 1) → NodesRecorded recs p t → NodesRecorded (wrote left_writes (relinked recs (above f) x y)) p t = stays recs f x y left_writes left_apart in
+        let stay : (p : Link) (t : PlacedNodes K) → ((j : ℕ) → occurs j t + (touched j left_writes + occurs_around j f) ≤ 1) → NodesRecorded recs p t → NodesRecorded (wrote left_writes (relinked recs (above f) x y)) p t = stays recs f x y left_writes left_apart in
         let land : (j : ℕ) (v : Record) → In (write j v) left_writes → j < length recs → Lies (wrote left_writes (relinked recs (above f) x y)) j v = written recs f x y left_writes left_apart in
         subst (λ t. LiesAmong t f (node_at shrinks y q C k P (pair_at x w unranked C (some (outer (unplaced P))) E o R O))) (sym left_computes)
         record {
           laid = (
             land y _ (there (there here)) l.1.1.0.within,
-            stay y P (λ j. let n = h.once j in let z = root_le o j in omega arith) l.1.1.1,
+            stay (Some y) P (λ j. let n = h.once j in let z = root_le o j in omega arith) l.1.1.1,
             (
               land x _ here l.0.within,
               (
                 land w _ (there here) l.1.0.within,
-                moves recs f x y left_writes left_apart y w o (there (there (there here))) (λ j. let n = h.once j in let z = root_le o j in omega arith) l.1.1.2,
-                stay w R (λ j. let n = h.once j in let z = root_le o j in omega arith) l.1.2,
+                moves recs f x y left_writes left_apart (Some y) (Some w) o (there (there (there here))) (λ j. let n = h.once j in let z = root_le o j in omega arith) l.1.1.2,
+                stay (Some w) R (λ j. let n = h.once j in let z = root_le o j in omega arith) l.1.2,
               ),
-              stay x O (λ j. let n = h.once j in let z = root_le o j in omega arith) l.2,
+              stay (Some x) O (λ j. let n = h.once j in let z = root_le o j in omega arith) l.2,
             ),
           );
-          around = holds_on recs f x y left_writes left_apart (λ j. let n = h.once j in omega arith) (λ j u. let n = h.low j u in omega arith) h.around;
+          around = holds_on recs f x y left_writes left_apart (λ j. let n = h.once j in omega arith) h.around;
           once = λ j. let n = h.once j in omega arith;
           low = λ j u. let n = h.low j u in omega arith;
           sized = (s.0, s.2.2.1, s.2.2.2, (s.0, root_sized P s.2.2.2, (s.2.0, root_sized P s.2.2.2, s.2.2.3, s.2.3), s.3));
@@ -68,10 +69,10 @@ module _ {K : Type 0} (recs : List Record) (f : List (NodeFrame K)) where
   module _ (s x w : ℕ) (r q : Rank) (C B E : Box) (i k : Option Box) (P L R O : PlacedNodes K) (h : LiesAmong recs f (node_at shrinks s r C i P (pair_at x w q B k E L R O))) where
     abbrev pub outer_writes : List Write
     outer_writes =
-        write s (in_record Shrink (outer (unplaced L)) i (place_of P) (place_of L) w r)
+        write s (in_record Shrink (outer (unplaced L)) i (place_of P) (place_of L) (Some w) r)
         ∷ write x (in_record Shrink B i w (place_of O) (above f) q)
-        ∷ write w (in_record Split E i s (place_of R) x q)
-        ∷ write (place_of L) (with_parent (at recs (place_of L)) s)
+        ∷ write w (in_record Split E i s (place_of R) (Some x) q)
+        ∷ write (place_of L) (with_parent (at recs (place_of L)) (Some s))
         ∷ []
 
     pub outer_computes : promoted_outer recs s ≡ wrote outer_writes (relinked recs (above f) s x)
@@ -79,7 +80,7 @@ module _ {K : Type 0} (recs : List Record) (f : List (NodeFrame K)) where
         let e1 = h.laid.0.reads in
         let e2 = h.laid.2.0.reads in
         let e3 = h.laid.2.1.0.reads in
-        let e4 : (at recs (place_of L)).outer ≡ numbers_of (outer (unplaced L)) = ap (λ (r : Record). r.outer) (root_lies recs w L h.laid.2.1.1).reads ∙ root_outer w L in
+        let e4 : (at recs (place_of L)).outer ≡ numbers_of (outer (unplaced L)) = ap (λ (r : Record). r.outer) (root_lies recs (Some w) L h.laid.2.1.1).reads ∙ root_outer (Some w) L in
         simp (e1, e2, e3, e4)
 
     outer_apart : (j : ℕ) → touched j outer_writes + occurs_around j f ≤ 1
@@ -89,7 +90,7 @@ module _ {K : Type 0} (recs : List Record) (f : List (NodeFrame K)) where
     rises_outer =
         let l = h.laid in
         let z = h.sized in
-        let stay : (p : ℕ) (t : PlacedNodes K) → ((j : ℕ) → occurs j t + (touched j outer_writes + occurs_around j f) ≤ 1) → NodesRecorded recs p t → NodesRecorded (wrote outer_writes (relinked recs (above f) s x)) p t = stays recs f s x outer_writes outer_apart in
+        let stay : (p : Link) (t : PlacedNodes K) → ((j : ℕ) → occurs j t + (touched j outer_writes + occurs_around j f) ≤ 1) → NodesRecorded recs p t → NodesRecorded (wrote outer_writes (relinked recs (above f) s x)) p t = stays recs f s x outer_writes outer_apart in
         let land : (j : ℕ) (v : Record) → In (write j v) outer_writes → j < length recs → Lies (wrote outer_writes (relinked recs (above f) s x)) j v = written recs f s x outer_writes outer_apart in
         subst (λ t. LiesAmong t f (pair_at x w q B i E (node_at shrinks s r (outer (unplaced L)) i P L) R O)) (sym outer_computes)
         record {
@@ -99,14 +100,14 @@ module _ {K : Type 0} (recs : List Record) (f : List (NodeFrame K)) where
               land w _ (there (there here)) l.2.1.0.within,
               (
                 land s _ here l.0.within,
-                stay s P (λ j. let n = h.once j in let z = root_le L j in omega arith) l.1,
-                moves recs f s x outer_writes outer_apart w s L (there (there (there here))) (λ j. let n = h.once j in let z = root_le L j in omega arith) l.2.1.1,
+                stay (Some s) P (λ j. let n = h.once j in let z = root_le L j in omega arith) l.1,
+                moves recs f s x outer_writes outer_apart (Some w) (Some s) L (there (there (there here))) (λ j. let n = h.once j in let z = root_le L j in omega arith) l.2.1.1,
               ),
-              stay w R (λ j. let n = h.once j in let z = root_le L j in omega arith) l.2.1.2,
+              stay (Some w) R (λ j. let n = h.once j in let z = root_le L j in omega arith) l.2.1.2,
             ),
-            stay x O (λ j. let n = h.once j in let z = root_le L j in omega arith) l.2.2,
+            stay (Some x) O (λ j. let n = h.once j in let z = root_le L j in omega arith) l.2.2,
           );
-          around = holds_on recs f s x outer_writes outer_apart (λ j. let n = h.once j in omega arith) (λ j u. let n = h.low j u in omega arith) h.around;
+          around = holds_on recs f s x outer_writes outer_apart (λ j. let n = h.once j in omega arith) h.around;
           once = λ j. let n = h.once j in omega arith;
           low = λ j u. let n = h.low j u in omega arith;
           sized = (z.3.0, z.1, (z.3.2.0, z.1, (root_sized L z.3.2.2, z.1, z.2, z.3.2.2), z.3.2.3), z.3.3);
@@ -118,7 +119,7 @@ module _ {K : Type 0} (recs : List Record) (f : List (NodeFrame K)) where
     -- another rank
     module _ (q : Rank) where
       abbrev pub rank_writes : List Write
-      rank_writes = write s (in_record Shrink C i w (place_of O) (above f) q) ∷ write w (in_record Split E i (place_of L) (place_of R) s q) ∷ []
+      rank_writes = write s (in_record Shrink C i w (place_of O) (above f) q) ∷ write w (in_record Split E i (place_of L) (place_of R) (Some s) q) ∷ []
 
       pub rank_computes : ranked recs s q ≡ wrote rank_writes recs
       rank_computes = let e1 = h.laid.0.reads in let e2 = h.laid.1.0.reads in simp (e1, e2)
@@ -135,10 +136,10 @@ module _ {K : Type 0} (recs : List Record) (f : List (NodeFrame K)) where
               written_in recs f rank_writes rank_apart s _ here l.0.within,
               (
                 written_in recs f rank_writes rank_apart w _ (there here) l.1.0.within,
-                stays_in recs f rank_writes rank_apart w L (λ j. let n = h.once j in omega arith) l.1.1,
-                stays_in recs f rank_writes rank_apart w R (λ j. let n = h.once j in omega arith) l.1.2,
+                stays_in recs f rank_writes rank_apart (Some w) L (λ j. let n = h.once j in omega arith) l.1.1,
+                stays_in recs f rank_writes rank_apart (Some w) R (λ j. let n = h.once j in omega arith) l.1.2,
               ),
-              stays_in recs f rank_writes rank_apart s O (λ j. let n = h.once j in omega arith) l.2,
+              stays_in recs f rank_writes rank_apart (Some s) O (λ j. let n = h.once j in omega arith) l.2,
             );
             around = holds_in recs f rank_writes rank_apart s h.around;
             once = h.once;
@@ -149,13 +150,13 @@ module _ {K : Type 0} (recs : List Record) (f : List (NodeFrame K)) where
 
     -- left and right change places
     abbrev pub swap_writes : List Write
-    swap_writes = write s (in_record Shrink C i w (place_of O) (above f) (carried R)) ∷ write w (in_record Split E i (place_of R) (place_of L) s (carried R)) ∷ []
+    swap_writes = write s (in_record Shrink C i w (place_of O) (above f) (carried R)) ∷ write w (in_record Split E i (place_of R) (place_of L) (Some s) (carried R)) ∷ []
 
     pub left_rank : (at recs (place_of L)).rank ≡ carried L
-    left_rank = ap (λ (v : Record). v.rank) (root_lies recs w L h.laid.1.1).reads ∙ root_rank w L
+    left_rank = ap (λ (v : Record). v.rank) (root_lies recs (Some w) L h.laid.1.1).reads ∙ root_rank (Some w) L
 
     pub right_rank : (at recs (place_of R)).rank ≡ carried R
-    right_rank = ap (λ (v : Record). v.rank) (root_lies recs w R h.laid.1.2).reads ∙ root_rank w R
+    right_rank = ap (λ (v : Record). v.rank) (root_lies recs (Some w) R h.laid.1.2).reads ∙ root_rank (Some w) R
 
     pub swap_computes : swapped recs s ≡ wrote swap_writes recs
     swap_computes =
@@ -177,10 +178,10 @@ module _ {K : Type 0} (recs : List Record) (f : List (NodeFrame K)) where
             written_in recs f swap_writes swap_apart s _ here l.0.within,
             (
               written_in recs f swap_writes swap_apart w _ (there here) l.1.0.within,
-              stays_in recs f swap_writes swap_apart w R (λ j. let n = h.once j in omega arith) l.1.2,
-              stays_in recs f swap_writes swap_apart w L (λ j. let n = h.once j in omega arith) l.1.1,
+              stays_in recs f swap_writes swap_apart (Some w) R (λ j. let n = h.once j in omega arith) l.1.2,
+              stays_in recs f swap_writes swap_apart (Some w) L (λ j. let n = h.once j in omega arith) l.1.1,
             ),
-            stays_in recs f swap_writes swap_apart s O (λ j. let n = h.once j in omega arith) l.2,
+            stays_in recs f swap_writes swap_apart (Some s) O (λ j. let n = h.once j in omega arith) l.2,
           );
           around = holds_in recs f swap_writes swap_apart s h.around;
           once = λ j. let n = h.once j in omega arith;
@@ -196,7 +197,7 @@ module _ {K : Type 0} (recs : List Record) (f : List (NodeFrame K)) where
     pub ordered_computes : ordered_in recs s ≡ by_ranks (inner_numbers i) (carried L) (carried R)
     ordered_computes =
         let e1 = h.laid.0.reads in
-        let e2 : at recs (at recs s).first ≡ in_record Split E i (place_of L) (place_of R) s r = ap (λ (v : Record). at recs v.first) e1 ∙ h.laid.1.0.reads in
+        let e2 : at recs (at recs s).first ≡ in_record Split E i (place_of L) (place_of R) (Some s) r = ap (λ (v : Record). at recs v.first) e1 ∙ h.laid.1.0.reads in
         let a : (at recs (at recs (at recs s).first).first).rank ≡ carried L = ap (λ (v : Record). (at recs v.first).rank) e2 ∙ left_rank in
         let b : (at recs (at recs (at recs s).first).second).rank ≡ carried R = ap (λ (v : Record). (at recs v.second).rank) e2 ∙ right_rank in
         ap (λ (v : Record). by_ranks v.inner ((at recs (at recs (at recs s).first).first).rank) ((at recs (at recs (at recs s).first).second).rank)) e1

@@ -5,6 +5,7 @@ use Rattle.records.specs.declared.record.Record.{Record}
 use Rattle.place.specs.Boxes.{Box}
 use Rattle.quadtreap.specs.Tree.{Content, box_in}
 use Rattle.quadtreap.specs.declared.rank.Rank.{Rank}
+use Rattle.records.specs.Links.{Link}
 use Rattle.records.specs.PlacedNodes.{PlacedNodes, leaf_at, pair_at, one, occurs, Shallow, record_of, Lies, NodeFrame, above}
 use Rattle.records.specs.Writes.{Write, write, wrote, relinked, replaced_in}
 use Rattle.records.specs.Elsewhere.{Elsewhere}
@@ -13,7 +14,7 @@ use Rattle.records.proofs.WriteLaws.{written, holds_on}
 use Rattle.records.proofs.ElsewhereLaws.{used_by, by_relinking}
 
 module _ {K : Type 0} (recs : List Record) (f : List (NodeFrame K)) (s w : ℕ) (r : Rank) (C : Box) (i : Option Box) (E : Box) (L R O : PlacedNodes K) (h : LiesAmong recs f (pair_at s w r C i E L R O))
-    (q j : ℕ) (B : Box) (c : Content K) (lies : Lies recs j (record_of q (leaf_at j B c))) (inside : (x : ℕ) → one x j ≤ occurs x (pair_at s w r C i E L R O)) (deep : Shallow (box_in c)) where
+    (q : Link) (j : ℕ) (B : Box) (c : Content K) (lies : Lies recs j (record_of q (leaf_at j B c))) (inside : (x : ℕ) → one x j ≤ occurs x (pair_at s w r C i E L R O)) (deep : Shallow (box_in c)) where
   abbrev pub replace_writes : List Write
   replace_writes = write j (record_of (above f) (leaf_at j C c)) ∷ []
 
@@ -28,7 +29,7 @@ module _ {K : Type 0} (recs : List Record) (f : List (NodeFrame K)) (s w : ℕ) 
       subst (λ t. LiesAmong t f (leaf_at j C c)) (sym replace_computes)
       record {
         laid = written recs f s j replace_writes replace_apart j _ here lies.within;
-        around = holds_on recs f s j replace_writes replace_apart (λ x. let n = h.once x in omega arith) (λ x u. let n = h.low x u in omega arith) h.around;
+        around = holds_on recs f s j replace_writes replace_apart (λ x. let n = h.once x in omega arith) h.around;
         once = λ x. let n = h.once x in let z = inside x in omega arith;
         low = λ x u. let n = h.low x u in let z = inside x in omega arith;
         sized = (h.sized.0, deep);

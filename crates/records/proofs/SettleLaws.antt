@@ -8,9 +8,10 @@ use Rattle.quadtreap.specs.Tree.{Content, reading, box, outer}
 use Rattle.quadtreap.specs.declared.rank.Rank.{Rank}
 use Rattle.quadtreap.specs.Rank.{earlier}
 use Rattle.quadtreap.specs.Pairs.{unranked}
+use Rattle.records.specs.Links.{Link}
 use Rattle.records.specs.Kinds.{is_pair, is_split}
-use Rattle.records.specs.PlacedNodes.{shrinks, splits, leaf_kind, PlacedNodes, leaf_at, node_at, pair_at, ordered_nodes, carried, unplaced, place_of, record_of, NodesRecorded, NodeFrame, above}
-use Rattle.records.specs.Writes.{at, promoted_left, promoted_outer, ordered_in, made_by, earlier_in, Rise, risen, settled_in}
+use Rattle.records.specs.PlacedNodes.{shrinks, splits, leaf_kind, PlacedNodes, leaf_at, node_at, pair_at, ordered_nodes, carried, unplaced, place_of, record_of, NodesRecorded, above}
+use Rattle.records.specs.Writes.{at, promoted_left, promoted_outer, ordered_in, made_by, earlier_in, Rise, risen, settled_outside, settled_inside, settled_under, settled_in}
 use Rattle.records.specs.PlacedPairs.{PlacedPairs, placed_leaf, placed_pair, nodes_of, top_place, rank, PairFrame, on_left_at, on_right_at, on_outer_at, node_frames, ordered_at, made_before, over_left, over_outer, settled_at, risen_over}
 use Rattle.records.proofs.FrameLaws.{differ, root_le, root_occurs, root_lies, root_rank, LiesAmong, up_first, up_second}
 use Rattle.records.proofs.PromoteLaws.{rises_left, rises_outer, orders}
@@ -23,60 +24,13 @@ earlier_than_pairs recs j x A B kj kx a b =
 
 -- the way that the step goes
 abbrev way : List Record → ℕ → ℕ → Record → Rise
-way recs s up rp =
-    cond (is_split rp.kind)
-    (cond (eqb rp.first s)
-    (cond (earlier_in recs s rp.parent) (risen (ordered_in (promoted_left recs rp.parent) s) s (Some rp.parent)) (risen (ordered_in recs rp.parent) rp.parent None))
-    (risen (ordered_in recs rp.parent) rp.parent None))
-    (cond (earlier_in recs s up) (risen (ordered_in (promoted_outer recs up) s) s (Some up)) (risen recs up None))
+way recs s up rp = cond (is_split rp.kind) (settled_inside recs s (eqb rp.first s) rp.parent) (settled_outside recs s up)
 
 eqs : (n : ℕ) (x y : Rise) → cond (eqb n n) x y ≡ x
 eqs n x y = ap (λ b. cond b x y) (eq-eqb n n refl)
 
 nes : (m n : ℕ) (x y : Rise) → m ≢ n → cond (eqb m n) x y ≡ y
 nes m n x y far = ap (λ b. cond b x y) (ne_eqb m n far)
-
--- The ways of a step up, from what it reads.
-module _ (t : List Record) (s : ℕ) (ru rp : Record) (is : ru ≡ at t s) (is' : rp ≡ at t ru.parent) where
-  abbrev risen_outer : Rise
-  risen_outer = risen (ordered_in (promoted_outer t ru.parent) s) s (Some ru.parent)
-
-  abbrev risen_left : Rise
-  risen_left = risen (ordered_in (promoted_left t rp.parent) s) s (Some rp.parent)
-
-  abbrev stays_below : Rise
-  stays_below = risen (ordered_in t rp.parent) rp.parent None
-
-  abbrev by_tests : Bool → Bool → Bool → Bool → Rise
-  by_tests split' first' left' outer' = cond split' (cond first' (cond left' risen_left stays_below) stays_below) (cond outer' risen_outer (risen t ru.parent None))
-
-  reads_way : settled_in t s ≡ by_tests (is_split rp.kind) (eqb rp.first s) (earlier_in t s rp.parent) (earlier_in t s ru.parent)
-  reads_way = ap (λ (u : Record). way t s u.parent (at t u.parent)) (sym is) ∙ ap (way t s ru.parent) (sym is')
-
-  not_split : is_split rp.kind ≡ false → settled_in t s ≡ cond (earlier_in t s ru.parent) risen_outer (risen t ru.parent None)
-  not_split far = reads_way ∙ ap (λ b. by_tests b (eqb rp.first s) (earlier_in t s rp.parent) (earlier_in t s ru.parent)) far
-
-  pub over_outer_lem : is_split rp.kind ≡ false → earlier_in t s ru.parent ≡ true → settled_in t s ≡ risen_outer
-  over_outer_lem far yes' = not_split far ∙ ap (λ b. cond b risen_outer (risen t ru.parent None)) yes'
-
-  pub under_outer : is_split rp.kind ≡ false → earlier_in t s ru.parent ≡ false → settled_in t s ≡ risen t ru.parent None
-  under_outer far no' = not_split far ∙ ap (λ b. cond b risen_outer (risen t ru.parent None)) no'
-
-  at_split : is_split rp.kind ≡ true → settled_in t s ≡ cond (eqb rp.first s) (cond (earlier_in t s rp.parent) risen_left stays_below) stays_below
-  at_split kind = reads_way ∙ ap (λ b. by_tests b (eqb rp.first s) (earlier_in t s rp.parent) (earlier_in t s ru.parent)) kind
-
-  pub over_left_lem : is_split rp.kind ≡ true → rp.first ≡ s → earlier_in t s rp.parent ≡ true → settled_in t s ≡ risen_left
-  over_left_lem kind first' yes' =
-      at_split kind ∙ ap (λ b. cond b (cond (earlier_in t s rp.parent) risen_left stays_below) stays_below) (eq-eqb rp.first s first')
-      ∙ ap (λ b. cond b risen_left stays_below) yes'
-
-  pub under_left : is_split rp.kind ≡ true → earlier_in t s rp.parent ≡ false → settled_in t s ≡ stays_below
-  under_left kind no' =
-      at_split kind ∙ ap (λ b. cond (eqb rp.first s) (cond b risen_left stays_below) stays_below) no'
-      ∙ (elim (eqb rp.first s) as (λ b. cond b stays_below stays_below ≡ stays_below) [ true ↦ refl | false ↦ refl ])
-
-  pub at_right : is_split rp.kind ≡ true → rp.first ≢ s → settled_in t s ≡ stays_below
-  at_right kind far = at_split kind ∙ ap (λ b. cond b (cond (earlier_in t s rp.parent) risen_left stays_below) stays_below) (ne_eqb rp.first s far)
 
 module _ {K : Type 0} where
   pub nodes_ordered : (s w : ℕ) (C : Box) (i : Option Box) (E : Box) (L R O : PlacedPairs K) → nodes_of (ordered_at s w C i E L R O) ≡ ordered_nodes s w C i E (nodes_of L) (nodes_of R) (nodes_of O)
@@ -89,42 +43,42 @@ module _ {K : Type 0} where
       elim (earlier (rank R) (rank L)) as (λ b. top_place (cond b (placed_pair s w (rank R) C none E R L O) (placed_pair s w (rank L) C none E L R O)) ≡ s) [ true ↦ refl | false ↦ refl ]
   place_ordered s w C (some I) E L R O = refl
 
-  root_parent : (p : ℕ) (t : PlacedNodes K) → (record_of p t).parent ≡ p
+  root_parent : (p : Link) (t : PlacedNodes K) → (record_of p t).parent ≡ p
   root_parent p (leaf_at q C c) = refl
   root_parent p (node_at k q r C g a b) = refl
 
   module _ (recs : List Record) where
     -- which of two was made earlier
-    pub made : (p s w : ℕ) (r : Rank) (C : Box) (i : Option Box) (E : Box) (L R O : PlacedNodes K) → NodesRecorded recs p (pair_at s w r C i E L R O) → (made_by recs (at recs s)).rank ≡ carried R
+    pub made : (p : Link) (s w : ℕ) (r : Rank) (C : Box) (i : Option Box) (E : Box) (L R O : PlacedNodes K) → NodesRecorded recs p (pair_at s w r C i E L R O) → (made_by recs (at recs s)).rank ≡ carried R
     made p s w r C i E L R O h =
         ap (λ (v : Record). (at recs (at recs v.first).second).rank) h.0.reads
         ∙ ap (λ (v : Record). (at recs v.second).rank) h.1.0.reads
-        ∙ ap (λ (v : Record). v.rank) (root_lies recs w R h.1.2).reads ∙ root_rank w R
+        ∙ ap (λ (v : Record). v.rank) (root_lies recs (Some w) R h.1.2).reads ∙ root_rank (Some w) R
 
     leaf_low : (c : Content K) → is_pair (leaf_kind c) ≡ false
     leaf_low (reading r) = refl
     leaf_low (box I) = refl
 
-    pub earlier_than_leaf : (p j x : ℕ) (C : Box) (c : Content K) → NodesRecorded recs p (leaf_at j C c) → earlier_in recs j x ≡ false
+    pub earlier_than_leaf : (p : Link) (j x : ℕ) (C : Box) (c : Content K) → NodesRecorded recs p (leaf_at j C c) → earlier_in recs j x ≡ false
     earlier_than_leaf p j x C c h =
         ap (λ b. cond b (cond (is_pair (at recs x).kind) (earlier ((made_by recs (at recs j)).rank) ((made_by recs (at recs x)).rank)) true) false)
         (ap (λ (v : Record). is_pair v.kind) h.reads ∙ leaf_low c)
 
-    pub earlier_than_over : (p j x : ℕ) (A : Rank) (t : PlacedNodes K) → is_pair (at recs j).kind ≡ true → (made_by recs (at recs j)).rank ≡ A → (C : Box) (c : Content K) → NodesRecorded recs p (leaf_at x C c) → earlier_in recs j x ≡ true
+    pub earlier_than_over : (p : Link) (j x : ℕ) (A : Rank) (t : PlacedNodes K) → is_pair (at recs j).kind ≡ true → (made_by recs (at recs j)).rank ≡ A → (C : Box) (c : Content K) → NodesRecorded recs p (leaf_at x C c) → earlier_in recs j x ≡ true
     earlier_than_over p j x A t kind is C c h =
         ap (λ b. cond b (cond (is_pair (at recs x).kind) (earlier ((made_by recs (at recs j)).rank) ((made_by recs (at recs x)).rank)) true) false) kind
         ∙ ap (λ b. cond b (earlier ((made_by recs (at recs j)).rank) ((made_by recs (at recs x)).rank)) true) (ap (λ (v : Record). is_pair v.kind) h.reads ∙ leaf_low c)
 
-    pub made_before_lem : (p q s w : ℕ) (r : Rank) (C : Box) (i : Option Box) (E : Box) (L R O : PlacedNodes K) (t D : PlacedPairs K) → nodes_of D ≡ R → NodesRecorded recs p (nodes_of t) → NodesRecorded recs q (pair_at s w r C i E L R O) → earlier_in recs (top_place t) s ≡ made_before t D
+    pub made_before_lem : (p q : Link) (s w : ℕ) (r : Rank) (C : Box) (i : Option Box) (E : Box) (L R O : PlacedNodes K) (t D : PlacedPairs K) → nodes_of D ≡ R → NodesRecorded recs p (nodes_of t) → NodesRecorded recs q (pair_at s w r C i E L R O) → earlier_in recs (top_place t) s ≡ made_before t D
     made_before_lem p q s w r C i E L R O (placed_leaf j B c) D is h g = earlier_than_leaf p j s B c h
     made_before_lem p q s w r C i E L R O (placed_pair y v a B k F A G o) D is h g =
         earlier_than_pairs recs y s (rank G) (rank D) (ap (λ (z : Record). is_pair z.kind) h.0.reads) (ap (λ (z : Record). is_pair z.kind) g.0.reads)
         (made p y v a B k F (nodes_of A) (nodes_of G) (nodes_of o) h) (made q s w r C i E L R O g ∙ ap carried (sym is))
 
-    goes : (f : List (NodeFrame K)) (t : PlacedNodes K) (rp : Record) → NodesRecorded recs (above f) t → at recs (above f) ≡ rp → settled_in recs (place_of t) ≡ way recs (place_of t) (above f) rp
-    goes f t rp h e =
-        let up : (at recs (place_of t)).parent ≡ above f = ap (λ (v : Record). v.parent) (root_lies recs (above f) t h).reads ∙ root_parent (above f) t in
-        ap (λ (u : ℕ). way recs (place_of t) u (at recs u)) up ∙ ap (way recs (place_of t) (above f)) e
+    goes : (t : PlacedNodes K) (p : ℕ) (rp : Record) → NodesRecorded recs (Some p) t → at recs p ≡ rp → settled_in recs (place_of t) ≡ way recs (place_of t) p rp
+    goes t p rp h e =
+        let up : (at recs (place_of t)).parent ≡ Some p = ap (λ (v : Record). v.parent) (root_lies recs (Some p) t h).reads ∙ root_parent (Some p) t in
+        ap (settled_under recs (place_of t)) up ∙ ap (way recs (place_of t) p) e
 
     -- the child is on the left
     module _ (gs : List (PairFrame K)) (s w : ℕ) (r : Rank) (C : Box) (i : Option Box) (E : Box) (R O t : PlacedPairs K) (h : LiesAmong recs (node_frames (on_left_at s w r C i E R O ∷ gs)) (nodes_of t)) where
@@ -136,9 +90,9 @@ module _ {K : Type 0} where
 
       pub left_goes : settled_in recs (top_place t) ≡ left_way (made_before t R)
       left_goes =
-          goes (node_frames (on_left_at s w r C i E R O ∷ gs)) (nodes_of t) _ h.laid h.around.0.reads
+          goes (nodes_of t) w _ h.laid h.around.0.reads
           ∙ eqs (top_place t) (left_way (earlier_in recs (top_place t) s)) (risen (ordered_in recs s) s None)
-          ∙ ap left_way (made_before_lem w (above (node_frames gs)) s w r C i E (nodes_of t) (nodes_of R) (nodes_of O) t R refl h.laid left_up.laid)
+          ∙ ap left_way (made_before_lem (Some w) (above (node_frames gs)) s w r C i E (nodes_of t) (nodes_of R) (nodes_of O) t R refl h.laid left_up.laid)
 
       left_stays : LiesAmong (ordered_in recs s) (node_frames gs) (nodes_of (ordered_at s w C i E t R O))
       left_stays = subst (LiesAmong (ordered_in recs s) (node_frames gs)) (sym (nodes_ordered s w C i E t R O)) (orders recs (node_frames gs) s w r C i E (nodes_of t) (nodes_of R) (nodes_of O) left_up)
@@ -153,7 +107,7 @@ module _ {K : Type 0} where
           let a = root_occurs (nodes_of L) in
           let b = root_le (nodes_of t) (top_place L) in
           let far : top_place L ≢ top_place t = differ (top_place L) (top_place t) (let n = h.once (top_place L) in omega arith) in
-          goes (node_frames (on_right_at s w r C i E L O ∷ gs)) (nodes_of t) _ h.laid h.around.0.reads
+          goes (nodes_of t) w _ h.laid h.around.0.reads
           ∙ nes (top_place L) (top_place t) _ (risen (ordered_in recs s) s None) far
 
       right_stays : LiesAmong (ordered_in recs s) (node_frames gs) (nodes_of (ordered_at s w C i E L t O))
@@ -169,8 +123,8 @@ module _ {K : Type 0} where
 
       pub outer_goes : settled_in recs (top_place t) ≡ outer_way (made_before t R)
       outer_goes =
-          goes (node_frames (on_outer_at s w r C i E L R ∷ gs)) (nodes_of t) _ h.laid h.around.0.reads
-          ∙ ap outer_way (made_before_lem s (above (node_frames gs)) s w r C i E (nodes_of L) (nodes_of R) (nodes_of t) t R refl h.laid outer_up.laid)
+          goes (nodes_of t) s _ h.laid h.around.0.reads
+          ∙ ap outer_way (made_before_lem (Some s) (above (node_frames gs)) s w r C i E (nodes_of L) (nodes_of R) (nodes_of t) t R refl h.laid outer_up.laid)
 
     -- The table, the pair in place and the pair that it rose over are those of the tree with places.
     pub record Settles (gs : List (PairFrame K)) (g : PairFrame K) (t : PlacedPairs K) (v : Rise) : Type 0 where

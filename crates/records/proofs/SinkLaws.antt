@@ -1,5 +1,5 @@
 -- One step of a strike in the table.
-use Rattle.std.proofs.Common.{◌≡◌, ℕ, ◌≤◌, Bool, true, false, cond, ◌&&◌, eqb, ltb, List, ◌∷◌, sym, refl, ap, ◌∙◌, subst, arith}
+use Rattle.std.proofs.Common.{◌≡◌, ℕ, ◌≤◌, Bool, true, false, cond, ◌&&◌, eqb, List, ◌∷◌, sym, refl, ap, ◌∙◌, subst, arith, Some}
 use mathlib.Core.Option.{Option, none, some}
 use Rattle.std.proofs.lemmas.Bool.{and_parts, false≢true}
 use Rattle.records.specs.declared.record.Record.{Record}
@@ -12,6 +12,7 @@ use Rattle.quadtreap.specs.Tree.{Content, reading, box, outer}
 use Rattle.quadtreap.specs.declared.rank.Rank.{Rank}
 use Rattle.quadtreap.specs.Pairs.{unranked, earlier_than, is_none}
 use Rattle.quadtreap.specs.Strike.{least_of}
+use Rattle.records.specs.Links.{Link}
 use Rattle.records.specs.Kinds.{is_leaf, is_pair}
 use Rattle.records.specs.PlacedNodes.{shrinks, splits, inner_numbers, in_record, leaf_kind, PlacedNodes, leaf_at, node_at, pair_at, occurs, Shallow, Sized, NodesRecorded, above}
 use Rattle.records.specs.Writes.{at, box_of, promoted_left, promoted_outer, ranked, swapped, no_inner, earlier_in, least_in, above_leaves_in, replaced_in, Sink, sinks, raised_outer, sunk_right, sunk_left, child_toward, sunk_pair, sunk_in}
@@ -57,7 +58,7 @@ module _ {K : Type 0} where
 
   module _ (recs : List Record) where
     -- what the tests tell
-    pub earlier_than_is : (p q : ℕ) (a b : PlacedPairs K) → NodesRecorded recs p (nodes_of a) → NodesRecorded recs q (nodes_of b) → earlier_in recs (top_place a) (top_place b) ≡ earlier_than (made_at a) (made_at b)
+    pub earlier_than_is : (p q : Link) (a b : PlacedPairs K) → NodesRecorded recs p (nodes_of a) → NodesRecorded recs q (nodes_of b) → earlier_in recs (top_place a) (top_place b) ≡ earlier_than (made_at a) (made_at b)
     earlier_than_is p q (placed_leaf j C c) b ha hb = earlier_than_leaf recs p j (top_place b) C c ha
     earlier_than_is p q (placed_pair s w r C i E L R O) (placed_leaf j B c) ha hb =
         earlier_than_over recs q s j (rank R) (nodes_of R) (ap (λ (v : Record). is_pair v.kind) ha.0.reads) (made recs p s w r C i E (nodes_of L) (nodes_of R) (nodes_of O) ha) B c hb
@@ -65,17 +66,17 @@ module _ {K : Type 0} where
         earlier_than_pairs recs s y (rank R) (rank D) (ap (λ (v : Record). is_pair v.kind) ha.0.reads) (ap (λ (v : Record). is_pair v.kind) hb.0.reads)
         (made recs p s w r C i E (nodes_of L) (nodes_of R) (nodes_of O) ha) (made recs q y v g B k F (nodes_of A) (nodes_of D) (nodes_of o) hb)
 
-    pub least_is : (p q m : ℕ) (a b c : PlacedPairs K) → NodesRecorded recs p (nodes_of a) → NodesRecorded recs q (nodes_of b) → NodesRecorded recs m (nodes_of c) → least_in recs (top_place a) (top_place b) (top_place c) ≡ least_of (made_at a) (made_at b) (made_at c)
+    pub least_is : (p q m : Link) (a b c : PlacedPairs K) → NodesRecorded recs p (nodes_of a) → NodesRecorded recs q (nodes_of b) → NodesRecorded recs m (nodes_of c) → least_in recs (top_place a) (top_place b) (top_place c) ≡ least_of (made_at a) (made_at b) (made_at c)
     least_is p q m a b c ha hb hc =
         ap (λ v. cond v (earlier_in recs (top_place a) (top_place c)) false) (earlier_than_is p q a b ha hb)
         ∙ ap (λ v. cond (earlier_than (made_at a) (made_at b)) v false) (earlier_than_is p m a c ha hc)
         ∙ and_cond (earlier_than (made_at a) (made_at b)) (earlier_than (made_at a) (made_at c))
 
-    leaf_reads : (p : ℕ) (t : PlacedPairs K) → NodesRecorded recs p (nodes_of t) → is_leaf (at recs (top_place t)).kind ≡ is_leaf_at t
+    leaf_reads : (p : Link) (t : PlacedPairs K) → NodesRecorded recs p (nodes_of t) → is_leaf (at recs (top_place t)).kind ≡ is_leaf_at t
     leaf_reads p (placed_leaf j C c) h = ap (λ (v : Record). is_leaf v.kind) h.reads ∙ leaf_is c
     leaf_reads p (placed_pair s w r C i E L R O) h = ap (λ (v : Record). is_leaf v.kind) h.0.reads
 
-    pub rank_is : (p : ℕ) (t : PlacedNodes K) → NodesRecorded recs p t → (at recs (Rattle.records.specs.PlacedNodes.place_of t)).rank ≡ Rattle.records.specs.PlacedNodes.carried t
+    pub rank_is : (p : Link) (t : PlacedNodes K) → NodesRecorded recs p t → (at recs (Rattle.records.specs.PlacedNodes.place_of t)).rank ≡ Rattle.records.specs.PlacedNodes.carried t
     rank_is p t h = ap (λ (v : Record). v.rank) (root_lies recs p t h).reads ∙ root_rank p t
 
     -- the left child rises, and the pair goes on below it
@@ -138,7 +139,7 @@ module _ {K : Type 0} where
         (down_second recs (node_frames gs) shrinks x.shrink x.rank x.outer x.inner (node_at splits x.split x.rank x.box x.inner (nodes_of x.left) (nodes_of x.right)) (nodes_of x.out) h, refl, same _ recs)
 
     -- a leaf takes the place of the pair
-    replace_child : (gs : List (PairFrame K)) (x : Pair K) (t : PlacedPairs K) (q : ℕ) (n : FourPlaces) → LiesAmong recs (node_frames gs) (nodes_of (whole x)) → is_leaf_at t ≡ true → NodesRecorded recs q (nodes_of t) → ((y : ℕ) → occurs y (nodes_of t) ≤ occurs y (nodes_of (whole x))) → Sized (nodes_of t)
+    replace_child : (gs : List (PairFrame K)) (x : Pair K) (t : PlacedPairs K) (q : Link) (n : FourPlaces) → LiesAmong recs (node_frames gs) (nodes_of (whole x)) → is_leaf_at t ≡ true → NodesRecorded recs q (nodes_of t) → ((y : ℕ) → occurs y (nodes_of t) ≤ occurs y (nodes_of (whole x))) → Sized (nodes_of t)
         → Moved recs (used_by (node_frames gs) (nodes_of (whole x))) gs (finished (replaced_at x.outer t) n) (sinks (replaced_in recs x.shrink (top_place t)) (Done (top_place t) n))
     replace_child gs x (placed_leaf j B c) q n h yes' laid inside sized = (
       replaces recs (node_frames gs) x.shrink x.split x.rank x.outer x.inner x.box (nodes_of x.left) (nodes_of x.right) (nodes_of x.out) h q j B c laid inside sized.1,
@@ -177,7 +178,7 @@ module _ {K : Type 0} where
     rs = in_record Shrink x.outer x.inner x.split o (above (node_frames gs)) x.rank
 
     abbrev pub rw : Record
-    rw = in_record Split x.box x.inner l r s x.rank
+    rw = in_record Split x.box x.inner l r (Some s) x.rank
 
     pub at_s : at recs s ≡ rs
     at_s = h.laid.0.reads
@@ -190,20 +191,20 @@ module _ {K : Type 0} where
         let P : Bool → Bool → Bool → Bool = λ u v w. cond u (cond v w false) false in
         ap (λ (v : Record). P (is_leaf (at recs (at recs v.first).first).kind) (is_leaf (at recs (at recs v.first).second).kind) (is_leaf (at recs v.second).kind)) at_s
         ∙ ap (λ (v : Record). P (is_leaf (at recs v.first).kind) (is_leaf (at recs v.second).kind) (is_leaf (at recs o).kind)) at_w
-        ∙ ap (λ v. P v (is_leaf (at recs r).kind) (is_leaf (at recs o).kind)) (leaf_reads recs x.split x.left h.laid.1.1)
-        ∙ ap (λ v. P (is_leaf_at x.left) v (is_leaf (at recs o).kind)) (leaf_reads recs x.split x.right h.laid.1.2)
-        ∙ ap (P (is_leaf_at x.left) (is_leaf_at x.right)) (leaf_reads recs s x.out h.laid.2)
+        ∙ ap (λ v. P v (is_leaf (at recs r).kind) (is_leaf (at recs o).kind)) (leaf_reads recs (Some x.split) x.left h.laid.1.1)
+        ∙ ap (λ v. P (is_leaf_at x.left) v (is_leaf (at recs o).kind)) (leaf_reads recs (Some x.split) x.right h.laid.1.2)
+        ∙ ap (P (is_leaf_at x.left) (is_leaf_at x.right)) (leaf_reads recs (Some s) x.out h.laid.2)
         ∙ and_cond (is_leaf_at x.left) (cond (is_leaf_at x.right) (is_leaf_at x.out) false)
         ∙ ap (λ v. is_leaf_at x.left && v) (and_cond (is_leaf_at x.right) (is_leaf_at x.out))
 
     least_left : least_in recs l r o ≡ least_of a b c
-    least_left = least_is recs x.split x.split s x.left x.right x.out h.laid.1.1 h.laid.1.2 h.laid.2
+    least_left = least_is recs (Some x.split) (Some x.split) (Some s) x.left x.right x.out h.laid.1.1 h.laid.1.2 h.laid.2
 
     least_right : least_in recs r l o ≡ least_of b a c
-    least_right = least_is recs x.split x.split s x.right x.left x.out h.laid.1.2 h.laid.1.1 h.laid.2
+    least_right = least_is recs (Some x.split) (Some x.split) (Some s) x.right x.left x.out h.laid.1.2 h.laid.1.1 h.laid.2
 
     least_outer : least_in recs o l r ≡ least_of c a b
-    least_outer = least_is recs s x.split x.split x.out x.left x.right h.laid.2 h.laid.1.1 h.laid.1.2
+    least_outer = least_is recs (Some s) (Some x.split) (Some x.split) x.out x.left x.right h.laid.2 h.laid.1.1 h.laid.1.2
 
     -- the struck reading is the first of the right child
     abbrev pub by_right : Bool → Bool → Bool → Sink
@@ -225,11 +226,11 @@ module _ {K : Type 0} where
     sinks_right =
         subst (Moved recs used gs (move_right x)) (sym right_computes)
         (either recs used gs (above_leaves x) _ _ _ _
-        (λ e. replace_child recs gs x x.left x.split (freed x x.right) h (and_parts _ _ e).0 h.laid.1.1 (λ y. omega arith) h.sized.2.2)
+        (λ e. replace_child recs gs x x.left (Some x.split) (freed x x.right) h (and_parts _ _ e).0 h.laid.1.1 (λ y. omega arith) h.sized.2.2)
         (λ _. either recs used gs (least_of a b c) _ _ _ _
         (λ e. over_left_lem recs gs s x.split x.rank x.outer x.inner x.box x.left x.right x.out b c h e)
         (λ _. either recs used gs (least_of c a b) _ _ _ _
-        (λ e. over_outer_lem recs gs s x.split x.rank x.outer x.inner x.box x.left x.right x.out a b l (rank x.left) h (rank_is recs x.split (nodes_of x.left) h.laid.1.1) e)
+        (λ e. over_outer_lem recs gs s x.split x.rank x.outer x.inner x.box x.left x.right x.out a b l (rank x.left) h (rank_is recs (Some x.split) (nodes_of x.left) h.laid.1.1) e)
         (λ _. into_right recs gs x h))))
 
     -- the struck reading is the first of the left child
@@ -258,12 +259,12 @@ module _ {K : Type 0} where
     sinks_left =
         subst (Moved recs used gs (move_left x)) (sym left_computes)
         (either recs used gs (above_leaves x) _ _ _ _
-        (λ e. replace_child recs gs x x.right x.split (freed x x.left) h (and_parts _ _ (and_parts _ _ e).1).0 h.laid.1.2 (λ y. omega arith) h.sized.2.3)
+        (λ e. replace_child recs gs x x.right (Some x.split) (freed x x.left) h (and_parts _ _ (and_parts _ _ e).1).0 h.laid.1.2 (λ y. omega arith) h.sized.2.3)
         (λ _. either recs used gs (least_of b a c) _ _ _ _
         (λ e. moved_from recs (swapped recs s) used (used_by (node_frames gs) (nodes_of (whole (exchanged_at x)))) gs (left_over (exchanged_at x) x.right) (sinks (promoted_left (swapped recs s) s) (On s)) (λ j z. omega arith) exchanged_same
         (over_left_lem (swapped recs s) gs s x.split (rank x.right) x.outer x.inner x.box x.right x.left x.out a c exchanged_lies e))
         (λ _. either recs used gs (least_of c a b) _ _ _ _
-        (λ e. over_outer_lem recs gs s x.split x.rank x.outer x.inner x.box x.left x.right x.out a b r (rank x.right) h (rank_is recs x.split (nodes_of x.right) h.laid.1.2) e)
+        (λ e. over_outer_lem recs gs s x.split x.rank x.outer x.inner x.box x.left x.right x.out a b r (rank x.right) h (rank_is recs (Some x.split) (nodes_of x.right) h.laid.1.2) e)
         (λ _. moved_from recs (swapped recs s) used (used_by (node_frames gs) (nodes_of (whole (exchanged_at x)))) gs (to_right (exchanged_at x)) (sinks (swapped recs s) (On l)) (λ j z. omega arith) exchanged_same (into_right (swapped recs s) gs (exchanged_at x) exchanged_lies)))))
 
     -- the child in which the code lies
@@ -273,8 +274,8 @@ module _ {K : Type 0} where
 
       box_is : holds (box_of (at recs l).outer) k ≡ holds (outer (tree_in x.left)) k
       box_is =
-          ap (λ (v : Record). holds (box_of v.outer) k) (root_lies recs x.split (nodes_of x.left) h.laid.1.1).reads
-          ∙ ap (λ (v : BoxNumbers). holds (box_of v) k) (root_outer x.split (nodes_of x.left))
+          ap (λ (v : Record). holds (box_of v.outer) k) (root_lies recs (Some x.split) (nodes_of x.left) h.laid.1.1).reads
+          ∙ ap (λ (v : BoxNumbers). holds (box_of v) k) (root_outer (Some x.split) (nodes_of x.left))
 
       by_box_is : (u v : Bool) → sinks recs (On (cond u (cond v l r) o)) ≡ by_box u v
       by_box_is true true = refl
@@ -299,8 +300,8 @@ module _ {K : Type 0} where
 
       pub sinks_pair : Moved recs used gs (move_pair x k) (sunk_pair recs s k)
       sinks_pair =
-          let cr : (at recs r).rank.code ≡ (rank x.right).code = ap (λ (v : Rank). v.code) (rank_is recs x.split (nodes_of x.right) h.laid.1.2) in
-          let cl : (at recs l).rank.code ≡ (rank x.left).code = ap (λ (v : Rank). v.code) (rank_is recs x.split (nodes_of x.left) h.laid.1.1) in
+          let cr : (at recs r).rank.code ≡ (rank x.right).code = ap (λ (v : Rank). v.code) (rank_is recs (Some x.split) (nodes_of x.right) h.laid.1.2) in
+          let cl : (at recs l).rank.code ≡ (rank x.left).code = ap (λ (v : Rank). v.code) (rank_is recs (Some x.split) (nodes_of x.left) h.laid.1.1) in
           let e : sunk_pair recs s k ≡ chosen recs s k (eqb k (rank x.right).code) (is_none x.inner) (eqb k (rank x.left).code) =
           reads recs s k rs rw at_s at_w
           ∙ ap (λ n. chosen recs s k (eqb k n) (Rattle.std.specs.Option.is_none (inner_numbers x.inner)) (eqb k (at recs l).rank.code)) cr

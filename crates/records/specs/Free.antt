@@ -1,28 +1,35 @@
 -- The free places: those never used, and the chain of those given back.
---   next, left_after, four_taken, four_left   the next free place, and the free places after it is taken
+--   next, left_of, left_after                 the next free place, and the free places after it is taken
+--   four_taken, four_left                     the same of four places
 --   linked, given_back                        the table and the free places after a place is given back
 --   four_linked, four_given                   the same of four places
 --   among, unused, free_at                    how often a place is free
 --   Chain, FreeIn                             the free places of a table
 --   Opens, TakesOne, TakesFour                what it is to take a free place
 --   GivesOne, GivesFour                       what it is to give a place back
-use Rattle.std.specs.Prelude.{◌≡◌, ℕ, suc, ◌+◌, ◌<◌, ◌≤◌, min, cond, List, [], ◌∷◌, length, ◌==◌, nat_le, slice_set}
+use Rattle.std.specs.Prelude.{◌≡◌, ℕ, suc, ◌+◌, ◌<◌, ◌≤◌, min, cond, List, [], ◌∷◌, length, nat_le, slice_set, None, Some}
+use Rattle.std.specs.Option.{unwrap_or}
 use Rattle.records.specs.declared.record.Record.{Record}
 use Rattle.records.specs.declared.places.FourPlaces.{FourPlaces}
 use Rattle.records.specs.declared.places.FreePlaces.{FreePlaces}
+use Rattle.records.specs.Links.{Link}
 use Rattle.records.specs.PlacedNodes.{one}
-use Rattle.records.specs.Writes.{at, with_first}
+use Rattle.records.specs.Writes.{at, with_parent}
 use Rattle.records.specs.PlacedPairs.{four}
 use Rattle.records.specs.Elsewhere.{Elsewhere}
 
 -- The next free place: the one given back last, or the first that was never used.
 abbrev pub next : FreePlaces → ℕ
-next f = cond (f.freed == 65535) f.fresh f.freed
+next f = unwrap_or f.freed f.fresh
+
+-- The free places once the next one is taken, where `fresh` is the first that was never used.
+abbrev pub left_of : List Record → ℕ → Link → FreePlaces
+left_of recs fresh None = record { fresh = min (fresh + 1) 65535; freed = None }
+left_of recs fresh (Some p) = record { fresh = fresh; freed = (at recs p).parent }
 
 -- The free places once the next one is taken.
 abbrev pub left_after : List Record → FreePlaces → FreePlaces
-left_after recs f =
-    cond (f.freed == 65535) (record { fresh = min (f.fresh + 1) 65535; freed = 65535 }) (record { fresh = f.fresh; freed = (at recs f.freed).first })
+left_after recs f = left_of recs f.fresh f.freed
 
 -- Four free places, taken one after the other.
 abbrev pub four_taken : List Record → FreePlaces → FourPlaces
@@ -36,13 +43,13 @@ four_taken recs f =
 abbrev pub four_left : List Record → FreePlaces → FreePlaces
 four_left recs f = left_after recs (left_after recs (left_after recs (left_after recs f)))
 
--- The table once the place i is given back: its record names the place that was given back before.
+-- The table once the place i is given back: its record has the place that was given back before as its parent.
 abbrev pub linked : List Record → FreePlaces → ℕ → List Record
-linked recs f i = slice_set recs i (with_first (at recs i) f.freed)
+linked recs f i = slice_set recs i (with_parent (at recs i) f.freed)
 
 -- The free places once the place i is given back.
 abbrev pub given_back : FreePlaces → ℕ → FreePlaces
-given_back f i = record { fresh = f.fresh; freed = i }
+given_back f i = record { fresh = f.fresh; freed = Some i }
 
 -- The table once four places are given back, the outer one first.
 abbrev pub four_linked : List Record → FreePlaces → FourPlaces → List Record
@@ -66,10 +73,10 @@ unused fresh i = cond {A = ℕ} (nat_le fresh i) 1 0
 abbrev pub free_at : FreePlaces → List ℕ → ℕ → ℕ
 free_at f spare i = among i spare + unused f.fresh i
 
--- The places given back, from the last to the first: the record of each names the next.
-abbrev pub Chain : List Record → ℕ → List ℕ → Type 0
-Chain recs head [] = head ≡ 65535
-Chain recs head (p ∷ ps) = (head ≡ p) × Chain recs (at recs p).first ps
+-- The places given back, from the last to the first: the record of each has the next as its parent.
+abbrev pub Chain : List Record → Link → List ℕ → Type 0
+Chain recs head [] = head ≡ None
+Chain recs head (p ∷ ps) = (head ≡ Some p) × Chain recs (at recs p).parent ps
 
 -- The free places among the first N of the table: the chain of those given back, and those never used.
 pub record FreeIn (N : ℕ) (recs : List Record) (f : FreePlaces) (spare : List ℕ) : Type 0 where

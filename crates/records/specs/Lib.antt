@@ -1,4 +1,5 @@
 pub mod Kinds
+pub mod Links
 pub mod PlacedNodes
 pub mod Writes
 pub mod PlacedPairs

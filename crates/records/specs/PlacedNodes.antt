@@ -18,6 +18,7 @@ use Rattle.quadtreap.specs.Tree.{Content, reading, box, Tree, leaf, shrink, spli
 use Rattle.quadtreap.specs.declared.rank.Rank.{Rank}
 use Rattle.quadtreap.specs.Rank.{earlier, rank_of}
 use Rattle.quadtreap.specs.Pairs.{unranked}
+use Rattle.records.specs.Links.{Link}
 
 -- A node with children is a shrink node or a split node.
 pub data NodeKind : Type 0 where
@@ -105,12 +106,12 @@ blank =
       inner = None;
       first = 0;
       second = 0;
-      parent = 0;
+      parent = None;
       rank = unranked;
     }
 
 -- The record of a node with a kind, an outer box, an inner box, two children, a parent and a rank.
-abbrev pub in_record : Kind → Box → Option Box → ℕ → ℕ → ℕ → Rank → Record
+abbrev pub in_record : Kind → Box → Option Box → ℕ → ℕ → Link → Rank → Record
 in_record k C i a b p r =
     record {
       kind = k;
@@ -122,8 +123,8 @@ in_record k C i a b p r =
       rank = r;
     }
 
--- The record of the root under the parent p. The number 65535 is no node.
-abbrev pub record_of : {K : Type 0} → ℕ → PlacedNodes K → Record
+-- The record of the root under the parent p. A leaf has 65535 for its children, which are never read.
+abbrev pub record_of : {K : Type 0} → Link → PlacedNodes K → Record
 record_of p (leaf_at q C c) = in_record (leaf_kind c) C (box_in c) 65535 65535 p (leaf_rank c)
 record_of p (node_at k q r C i a b) = in_record (kind_of k) C i (place_of a) (place_of b) p r
 
@@ -133,13 +134,13 @@ pub record Lies (recs : List Record) (i : ℕ) (r : Record) : Type 0 where
   pub reads : slice_index_or recs i blank ≡ r
 
 -- The table has the record of each node at its place, where p is the parent of the root.
-abbrev pub NodesRecorded : {K : Type 0} → List Record → ℕ → PlacedNodes K → Type 0
+abbrev pub NodesRecorded : {K : Type 0} → List Record → Link → PlacedNodes K → Type 0
 NodesRecorded recs p (leaf_at q C c) = Lies recs q (record_of p (leaf_at q C c))
-NodesRecorded recs p (node_at k q r C i a b) = Lies recs q (record_of p (node_at k q r C i a b)) × NodesRecorded recs q a × NodesRecorded recs q b
+NodesRecorded recs p (node_at k q r C i a b) = Lies recs q (record_of p (node_at k q r C i a b)) × NodesRecorded recs (Some q) a × NodesRecorded recs (Some q) b
 
 -- The tree lies in the table: the table has its records, and each node has a place of its own below 65535.
 pub record LiesIn {K : Type 0} (recs : List Record) (t : PlacedNodes K) : Type 0 where
-  pub laid : NodesRecorded recs 65535 t
+  pub laid : NodesRecorded recs None t
   pub once : (i : ℕ) → occurs i t ≤ 1
   pub low : (i : ℕ) → 65535 ≤ i → occurs i t ≡ 0
   pub sized : Sized t
@@ -155,11 +156,11 @@ plug [] t = t
 plug (first k p r C i b ∷ f) t = plug f (node_at k p r C i t b)
 plug (second k p r C i a ∷ f) t = plug f (node_at k p r C i a t)
 
--- The place of the lowest frame: the parent of what stands in the frames.
-abbrev pub above : {K : Type 0} → List (NodeFrame K) → ℕ
-above [] = 65535
-above (first k p r C i b ∷ f) = p
-above (second k p r C i a ∷ f) = p
+-- The place of the lowest frame: the parent of what stands in the frames, or none.
+abbrev pub above : {K : Type 0} → List (NodeFrame K) → Link
+above [] = None
+above (first k p r C i b ∷ f) = Some p
+above (second k p r C i a ∷ f) = Some p
 
 -- A pair with no inner box has its children in the order of their ranks and takes the rank of the first; one with an inner box has no rank.
 abbrev pub ordered_nodes : {K : Type 0} → ℕ → ℕ → Box → Option Box → Box → PlacedNodes K → PlacedNodes K → PlacedNodes K → PlacedNodes K

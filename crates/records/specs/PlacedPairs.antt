@@ -17,6 +17,7 @@ use Rattle.quadtreap.specs.declared.rank.Rank.{Rank}
 use Rattle.quadtreap.specs.Rank.{earlier}
 use Rattle.quadtreap.specs.Pairs.{unranked, node_rank, Frame, on_left, on_right, on_outer}
 use Rattle.quadtreap.specs.Enter.{leads_all}
+use Rattle.records.specs.Links.{Link}
 use Rattle.records.specs.PlacedNodes.{shrinks, splits, PlacedNodes, leaf_at, node_at, pair_at, unplaced, place_of, one, occurs, carried, NodeFrame, first, second}
 
 -- A leaf, or a pair: the places of its shrink and its split node, its rank, outer box, inner box, the box of the split, and left, right and outer child.
@@ -124,7 +125,7 @@ settled_at (on_right_at s w r C i E L O) t = ordered_at s w C i E L t O
 settled_at (on_outer_at s w r C i E L R) t = cond (made_before t R) (over_outer s w r C i E L R t) (placed_pair s w r C i E L R t)
 
 -- The place of the pair that t rises over, or none.
-abbrev pub risen_over : {K : Type 0} → PairFrame K → PlacedPairs K → Rattle.std.specs.Prelude.Option ℕ
+abbrev pub risen_over : {K : Type 0} → PairFrame K → PlacedPairs K → Link
 risen_over (on_left_at s w r C i E R O) t = cond (made_before t R) (Some s) None
 risen_over (on_right_at s w r C i E L O) t = None
 risen_over (on_outer_at s w r C i E L R) t = cond (made_before t R) (Some s) None

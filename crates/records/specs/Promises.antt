@@ -19,6 +19,7 @@ use Rattle.quadtreap.specs.Rank.{rank_of}
 use Rattle.quadtreap.specs.Pairs.{promote_left, promote_outer, unranked, ordered as ordered_tree, Paired}
 use Rattle.quadtreap.specs.Enter.{settle as settle_tree, plant as plant_tree}
 use Rattle.quadtreap.specs.Strike.{strike_step, strike_tree}
+use Rattle.records.specs.Links.{Link}
 use Rattle.records.specs.PlacedNodes.{LiesIn, one, occurs}
 use Rattle.records.specs.PlacedPairs.{PlacedPairs, placed_leaf, placed_pair, nodes_of, tree_in, top_place, RanksStand, PairFrame, put_in, put_in_all, frame, FrameRanksStand, ordered_at, settled_at, risen_over, Reaches, Free, four, planted_at}
 use Rattle.records.specs.Elsewhere.{Elsewhere, places_of}
@@ -84,7 +85,7 @@ Plants K entry exit i q n =
     → Planted entry exit gs n i C c p
 
 -- One step of the rise: t is settled in its frame, `top` is in its place, and `low` is the pair that it rose over, or none. Nothing else changed.
-pub record Rises {K : Type 0} (entry exit : List Record) (gs : List (PairFrame K)) (g : PairFrame K) (t : PlacedPairs K) (top : ℕ) (low : Rattle.std.specs.Prelude.Option ℕ) : Type 0 where
+pub record Rises {K : Type 0} (entry exit : List Record) (gs : List (PairFrame K)) (g : PairFrame K) (t : PlacedPairs K) (top : ℕ) (low : Link) : Type 0 where
   pub kept : LiesIn exit (nodes_of (put_in_all gs (settled_at g t)))
   pub tree : tree_in (settled_at g t) ≡ settle_tree (frame g) (tree_in t)
   pub right : RanksStand (settled_at g t)
@@ -94,7 +95,7 @@ pub record Rises {K : Type 0} (entry exit : List Record) (gs : List (PairFrame K
   pub same : Elsewhere (places_of (put_in_all (g ∷ gs) t)) entry exit
 
 -- The tree at s is settled in its frame.
-abbrev pub Settles : Type 0 → List Record → List Record → ℕ → ℕ → Rattle.std.specs.Prelude.Option ℕ → Type 0
+abbrev pub Settles : Type 0 → List Record → List Record → ℕ → ℕ → Link → Type 0
 Settles K entry exit s top low =
     (gs : List (PairFrame K)) (g : PairFrame K) (t : PlacedPairs K) → FrameRanksStand g → RanksStand t → s ≡ top_place t → LiesIn entry (nodes_of (put_in_all (g ∷ gs) t)) → Rises entry exit gs g t top low
 

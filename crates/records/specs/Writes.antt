@@ -6,7 +6,7 @@
 --   renamed, relinked                                                              a node names another child
 --   promoted_left, promoted_outer                                                  a child pair rises
 --   ranked, swapped, no_inner, ordered_in                                          the rank of a pair and the order of its children
---   made_by, earlier_in, Rise, risen, settled_in                                   one step of the rise
+--   made_by, earlier_in, Rise, risen, settled_outside, .., settled_in              one step of the rise
 --   descended                                                                      the way of a code down
 --   joined_in, planted, first_planted                                              a new reading
 --   least_in, above_leaves_in, replaced_in, freed_in, raised_outer, child_toward   what a step of a strike asks and does
@@ -24,6 +24,7 @@ use Rattle.place.specs.Boxes.{Box, cut, whole, point, holds, smallest}
 use Rattle.quadtreap.specs.declared.rank.Rank.{Rank}
 use Rattle.quadtreap.specs.Rank.{earlier}
 use Rattle.quadtreap.specs.Pairs.{unranked}
+use Rattle.records.specs.Links.{Link}
 use Rattle.records.specs.Kinds.{is_leaf, is_pair, is_split}
 use Rattle.records.specs.PlacedNodes.{blank, numbers_of}
 
@@ -53,8 +54,8 @@ with_first r a = record { kind = r.kind; outer = r.outer; inner = r.inner; first
 abbrev pub with_second : Record → ℕ → Record
 with_second r b = record { kind = r.kind; outer = r.outer; inner = r.inner; first = r.first; second = b; parent = r.parent; rank = r.rank }
 
--- The record with the parent p.
-abbrev pub with_parent : Record → ℕ → Record
+-- The record with the parent p, or with none.
+abbrev pub with_parent : Record → Link → Record
 with_parent r p = record { kind = r.kind; outer = r.outer; inner = r.inner; first = r.first; second = r.second; parent = p; rank = r.rank }
 
 -- The record with the outer box c.
@@ -74,8 +75,9 @@ abbrev pub renamed : Record → ℕ → ℕ → Record
 renamed r x y = cond (r.first == x) (with_first r y) (with_second r y)
 
 -- The node at p, if there is one, names y where it named x.
-abbrev pub relinked : List Record → ℕ → ℕ → ℕ → List Record
-relinked t p x y = cond (p == 65535) t (slice_set t p (renamed (at t p) x y))
+abbrev pub relinked : List Record → Link → ℕ → ℕ → List Record
+relinked t None x y = t
+relinked t (Some p) x y = slice_set t p (renamed (at t p) x y)
 
 -- The left child of the pair at x rises over it: it takes the place, the outer box and the parent of the pair, which becomes its outer child, and the pair takes the outer child of the left child as its left child.
 abbrev pub promoted_left : List Record → ℕ → List Record
@@ -86,10 +88,10 @@ promoted_left t x =
     let inner_box : BoxNumbers = (at t ry.first).outer in
     let ro : Record = at t ry.second in
     wrote
-    (write x (with_parent (with_inner (with_rank rx unranked) (Some inner_box)) rw.first)
+    (write x (with_parent (with_inner (with_rank rx unranked) (Some inner_box)) (Some rw.first))
     ∷ write rx.first (with_first (with_inner (with_rank rw unranked) (Some inner_box)) ry.second)
     ∷ write rw.first (with_parent (with_second (with_outer ry rx.outer) x) rx.parent)
-    ∷ write ry.second (with_parent ro rx.first)
+    ∷ write ry.second (with_parent ro (Some rx.first))
     ∷ [])
     (relinked t rx.parent x rw.first)
 
@@ -101,10 +103,10 @@ promoted_outer t s =
     let rw : Record = at t rx.first in
     let rl : Record = at t rw.first in
     wrote
-    (write s (with_parent (with_second (with_outer rs rl.outer) rw.first) rx.first)
+    (write s (with_parent (with_second (with_outer rs rl.outer) rw.first) (Some rx.first))
     ∷ write rs.second (with_parent (with_inner rx rs.inner) rs.parent)
     ∷ write rx.first (with_first (with_inner rw rs.inner) s)
-    ∷ write rw.first (with_parent rl s)
+    ∷ write rw.first (with_parent rl (Some s))
     ∷ [])
     (relinked t rs.parent s rs.second)
 
@@ -153,22 +155,32 @@ earlier_in t a b =
 pub record Rise : Type 0 where
   pub table : List Record
   pub top : ℕ
-  pub low : Option ℕ
+  pub low : Link
 
 -- A step up that ends in the table t, with the pair x in its place, over the pair y or over none.
-abbrev pub risen : List Record → ℕ → Option ℕ → Rise
+abbrev pub risen : List Record → ℕ → Link → Rise
 risen t x y = record { table = t; top = x; low = y }
+
+-- One step up from the pair at s, an outer child of the pair at x: it rises over that if it was made earlier.
+abbrev pub settled_outside : List Record → ℕ → ℕ → Rise
+settled_outside t s x = cond (earlier_in t s x) (risen (ordered_in (promoted_outer t x) s) s (Some x)) (risen t x None)
+
+-- One step up from the pair at s, under the split node of the pair at x: it rises over that if it is its left child and was made earlier, and the pair on top is ordered. Under a split node of no pair nothing changes.
+abbrev pub settled_inside : List Record → ℕ → Bool → Link → Rise
+settled_inside t s is_left None = risen t s None
+settled_inside t s is_left (Some x) =
+    cond is_left (cond (earlier_in t s x) (risen (ordered_in (promoted_left t x) s) s (Some x)) (risen (ordered_in t x) x None)) (risen (ordered_in t x) x None)
+
+-- One step up from the pair at s under its parent, if it has one.
+abbrev pub settled_under : List Record → ℕ → Link → Rise
+settled_under t s None = risen t s None
+settled_under t s (Some p) =
+    let rp : Record = at t p in
+    cond (is_split rp.kind) (settled_inside t s (rp.first == s) rp.parent) (settled_outside t s p)
 
 -- One step up from the pair at s: it rises over the pair above it if it was made earlier, and the pair on top is ordered.
 abbrev pub settled_in : List Record → ℕ → Rise
-settled_in t s =
-    let rs : Record = at t s in
-    let rp : Record = at t rs.parent in
-    cond (is_split rp.kind)
-    (cond (rp.first == s)
-    (cond (earlier_in t s rp.parent) (risen (ordered_in (promoted_left t rp.parent) s) s (Some rp.parent)) (risen (ordered_in t rp.parent) rp.parent None))
-    (risen (ordered_in t rp.parent) rp.parent None))
-    (cond (earlier_in t s rs.parent) (risen (ordered_in (promoted_outer t rs.parent) s) s (Some rs.parent)) (risen t rs.parent None))
+settled_in t s = settled_under t s (at t s).parent
 
 -- The box of two numbers of a record.
 abbrev pub box_of : BoxNumbers → Box
@@ -190,11 +202,11 @@ abbrev pub content_numbers : Record → BoxNumbers
 content_numbers r = unwrap_or r.inner (record { depth = 32; code = r.rank.code })
 
 -- The record of a leaf.
-abbrev pub leaf_record : Kind → BoxNumbers → Option BoxNumbers → ℕ → Rank → Record
+abbrev pub leaf_record : Kind → BoxNumbers → Option BoxNumbers → Link → Rank → Record
 leaf_record k outer inner p q = record { kind = k; outer = outer; inner = inner; first = 65535; second = 65535; parent = p; rank = q }
 
 -- The record of a node with children, and with no rank yet.
-abbrev pub node_record : Kind → BoxNumbers → Option BoxNumbers → ℕ → ℕ → ℕ → Record
+abbrev pub node_record : Kind → BoxNumbers → Option BoxNumbers → ℕ → ℕ → Link → Record
 node_record k outer inner a b p = record { kind = k; outer = outer; inner = inner; first = a; second = b; parent = p; rank = unranked }
 
 -- The leaf at i becomes the left child of a new pair on e, at the places n. A new reading with the rank q is the right child.
@@ -202,10 +214,10 @@ abbrev pub joined_in : List Record → ℕ → Box → Rank → FourPlaces → L
 joined_in t i e q n =
     let ri : Record = at t i in
     wrote
-    (write i (with_parent (with_outer ri (half_numbers e (content_numbers ri).code)) n.split)
-    ∷ write n.reading (leaf_record ReadingKind (half_numbers e q.code) None n.split q)
-    ∷ write n.outer (leaf_record BoxKind ri.outer (Some (numbers_of e)) n.shrink unranked)
-    ∷ write n.split (node_record Split (numbers_of e) ri.inner i n.reading n.shrink)
+    (write i (with_parent (with_outer ri (half_numbers e (content_numbers ri).code)) (Some n.split))
+    ∷ write n.reading (leaf_record ReadingKind (half_numbers e q.code) None (Some n.split) q)
+    ∷ write n.outer (leaf_record BoxKind ri.outer (Some (numbers_of e)) (Some n.shrink) unranked)
+    ∷ write n.split (node_record Split (numbers_of e) ri.inner i n.reading (Some n.shrink))
     ∷ write n.shrink (node_record Shrink ri.outer ri.inner n.split n.outer ri.parent)
     ∷ [])
     (relinked t ri.parent i n.shrink)
@@ -216,7 +228,7 @@ planted t i q n = ordered_in (joined_in t i (smallest (box_of (content_numbers (
 
 -- The leaf of the only reading, which has the rank q, is written at i, over the whole square.
 abbrev pub first_planted : List Record → ℕ → Rank → List Record
-first_planted t i q = slice_set t i (leaf_record ReadingKind (numbers_of whole) None 65535 q)
+first_planted t i q = slice_set t i (leaf_record ReadingKind (numbers_of whole) None None q)
 
 -- Whether the node at a is a pair, and made first of the three.
 abbrev pub least_in : List Record → ℕ → ℕ → ℕ → Bool

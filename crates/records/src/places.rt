@@ -18,10 +18,9 @@ pub enum Sinking {
     Lost,
 }
 
-/// The free places: those from `fresh` on were never used, and `freed` is the first of the chain of those given back,
-/// 65535 where there is none.
+/// The free places: those from `fresh` on were never used, and `freed` is the one given back last, if there is one.
 #[derive(Clone, Copy)]
 pub struct FreePlaces {
     pub fresh: u16,
-    pub freed: u16,
+    pub freed: Option<u16>,
 }

@@ -10,7 +10,7 @@ use crate::kind::Kind;
 use place::PlaceBox;
 use quadtreap::{Rank, UNRANKED};
 
-/// No node.
+/// No node: the children that a leaf names.
 pub const NONE: u16 = 65535;
 
 /// The depth and the code of a box.
@@ -60,9 +60,10 @@ pub struct Record {
     pub kind: Kind,
     pub outer: BoxNumbers,
     pub inner: Option<BoxNumbers>,
+    // The children are plain places: those of a node are read and written without asking, and those of a leaf are never read.
     pub first: u16,
     pub second: u16,
-    pub parent: u16,
+    pub parent: Option<u16>,
     pub rank: Rank,
 }
 
@@ -72,7 +73,7 @@ impl Record {
         kind: Kind,
         outer: BoxNumbers,
         inner: Option<BoxNumbers>,
-        parent: u16,
+        parent: Option<u16>,
         rank: Rank,
     ) -> Record
         ensures value { result ≡ leaf_record kind outer inner parent rank }
@@ -95,7 +96,7 @@ impl Record {
         inner: Option<BoxNumbers>,
         first: u16,
         second: u16,
-        parent: u16,
+        parent: Option<u16>,
     ) -> Record
         ensures value { result ≡ node_record kind outer inner first second parent }
     {
@@ -124,8 +125,8 @@ impl Record {
         Record { second, ..self }
     }
 
-    /// The record with another parent.
-    pub fn with_parent(self, parent: u16) -> Record
+    /// The record with another parent, or with none.
+    pub fn with_parent(self, parent: Option<u16>) -> Record
         ensures value { result ≡ with_parent self parent }
     {
         Record { parent, ..self }

@@ -3,7 +3,7 @@ ghost use Rattle.std.specs.Prelude.{◌≡◌, slice_index_or, slice_set};
 ghost use Rattle.records.specs.Writes.{at, relinked};
 
 use crate::kind::Kind;
-use crate::record::{BoxNumbers, NONE, Record};
+use crate::record::{BoxNumbers, Record};
 use quadtreap::UNRANKED;
 
 /// A record of zeros and no inner box, for tables that hold nothing yet.
@@ -13,7 +13,7 @@ pub const BLANK: Record = Record {
     inner: None,
     first: 0,
     second: 0,
-    parent: 0,
+    parent: None,
     rank: UNRANKED,
 };
 
@@ -43,12 +43,12 @@ pub fn write<T: Copy>(entries: &mut [T], place: u16, value: T)
 }
 
 /// Has the node at a place, if there is one, name the child `new` where it names `old`.
-pub fn relink(records: &mut [Record], place: u16, old: u16, new: u16)
+pub fn relink(records: &mut [Record], place: Option<u16>, old: u16, new: u16)
     ensures table { records.new ≡ relinked records.old place old new }
 {
-    if place == NONE {
+    let Some(place) = place else {
         return;
-    }
+    };
     let r = read(records, place);
     if r.first == old {
         write(records, place, r.with_first(new));

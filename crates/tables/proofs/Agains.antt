@@ -11,6 +11,7 @@ use Rattle.quadtreap.specs.Tree.{Reading, Content, reading, box, tree_of, nodes}
 use Rattle.quadtreap.specs.Find.{of_code, lookup}
 use Rattle.quadtreap.specs.Carry.{carry, carry_all, carry_tree, map_carry}
 use Rattle.records.specs.Kinds.{is_reading}
+use Rattle.records.specs.Links.{Link}
 use Rattle.records.specs.PlacedNodes.{PlacedNodes, leaf_at, unplaced, place_of, one, occurs, LiesIn, record_of, above, plug, NodeFrame}
 use Rattle.records.specs.PlacedPairs.{PlacedPairs, placed_leaf, nodes_of, tree_in, RanksStand, PairFrame, put_in_all, node_frames}
 use Rattle.tables.specs.Calls.{Call, repeats, is_some, present, more, roll}
@@ -176,7 +177,7 @@ module _ {K : Type 0} (join : K → K → K) (e : K) (k : ℕ) (v : K) where
         let there : present k rs ≡ true = ap is_some here in
         let up : q.parent ≡ above (node_frames path) = ap (λ (x : Record). x.parent) is in
         let ts1 : List K = set s.tallies i (join (get_or s.tallies i e) v) in
-        subst (λ (p : ℕ). Serves join e s (state s.records (climbed join e s.records s.places p ts1) s.places s.root s.live s.free) (repeats k v) cs (Ok m)) (sym up)
+        subst (λ p. Serves join e s (state s.records (climbed join e s.records s.places p ts1) s.places s.root s.live s.free) (repeats k v) cs (Ok m)) (sym up)
         record {
           stands = subst (λ b. Stands join e (state s.records (climbed join e s.records s.places (above (node_frames path)) ts1) s.places s.root s.live s.free) (cond b (carry_all (more join k v) rs) rs)) (sym there)
               (stands_after s rs st root far i path C r whole same);

@@ -1,11 +1,11 @@
 -- The way up renews the entry of each node on it.
-use Rattle.std.proofs.Common.{◌≡◌, ℕ, zero, suc, ◌+◌, ◌-◌, ◌<◌, ◌≤◌, cond, ◌≢◌, List, [], ◌∷◌, length, get_or, set, sym, refl, ap, ◌∙◌, subst, inl, inr, arith, length-set, get_or-set_other, get_or-set_same}
+use Rattle.std.proofs.Common.{◌≡◌, ℕ, zero, suc, ◌+◌, ◌-◌, ◌<◌, ◌≤◌, List, [], ◌∷◌, length, get_or, set, sym, refl, ap, ◌∙◌, subst, arith, length-set, get_or-set_other, get_or-set_same, None, Some}
 use mathlib.Core.Option.{Option}
-use Rattle.std.proofs.lemmas.Bool.{eq-eqb, ne_eqb, cases_lt}
 use Rattle.records.specs.declared.record.Record.{Record}
 use Rattle.place.specs.Boxes.{Box}
 use Rattle.quadtreap.specs.Tree.{nodes}
 use Rattle.quadtreap.specs.Walk.{tally_of}
+use Rattle.records.specs.Links.{Link}
 use Rattle.records.specs.PlacedNodes.{NodeKind as Kind, shrinks, splits, kind_of, in_record, PlacedNodes, leaf_at, node_at, unplaced, grown, place_of, one, occurs, NodeFrame, first, second, plug, above}
 use Rattle.records.specs.Writes.{at}
 use Rattle.tables.specs.Totals.{Has, Totals, renewed, climbed}
@@ -49,38 +49,31 @@ module _ {K : Type 0} (join : K → K → K) (e : K) where
   beside ts (second k p r C g a ∷ f) t h = let u = beside ts f (node_at k p r C g a t) h in (u.0.2, (u.0.0.within, u.0.1, u.1))
 
   module _ (recs : List Record) where
-    abbrev run : ℕ → ℕ → List K → List K
+    abbrev run : ℕ → Link → List K → List K
     run n i ts = climbed join e recs n i ts
 
-    pub stops : (n : ℕ) (ts : List K) → run n 65535 ts ≡ ts
+    pub stops : (n : ℕ) (ts : List K) → run n None ts ≡ ts
     stops zero ts = refl
-    stops (suc n) ts = ap (λ b. cond b ts (run n (at recs 65535).parent (renewed join e ts 65535 (at recs 65535).first (at recs 65535).second))) (eq-eqb 65535 65535 refl)
-
-    pub goes : (n i : ℕ) (ts : List K) → i ≢ 65535 → run (suc n) i ts ≡ run n (at recs i).parent (renewed join e ts i (at recs i).first (at recs i).second)
-    goes n i ts far = ap (λ b. cond b ts (run n (at recs i).parent (renewed join e ts i (at recs i).first (at recs i).second))) (ne_eqb i 65535 far)
+    stops (suc n) ts = refl
 
     -- one turn of the loop, with d behind it: r is what it reads
-    pub turns : (n d i j : ℕ) (ts ts' : List K) (r : Record) → d < n → i ≢ 65535 → r ≡ at recs i → ts' ≡ renewed join e ts i r.first r.second → j ≡ r.parent → run (n - (d + 1)) j ts' ≡ run (n - d) i ts
-    turns n d i j ts ts' r some far is new to =
+    pub turns : (n d i : ℕ) (from j : Link) (ts ts' : List K) (r : Record) → d < n → from ≡ Some i → r ≡ at recs i → ts' ≡ renewed join e ts i r.first r.second → j ≡ r.parent → run (n - (d + 1)) j ts' ≡ run (n - d) from ts
+    turns n d i from j ts ts' r some at_i is new to =
         let left : n - d ≡ suc (n - (d + 1)) = omega arith in
         let m : ℕ = n - (d + 1) in
-        ap (λ (p : ℕ). run m p ts') to ∙ ap (λ (l : List K). run m r.parent l) new
-        ∙ ap (λ (v : Record). run m v.parent (renewed join e ts i v.first v.second)) is ∙ sym (goes m i ts far) ∙ ap (λ (k : ℕ). run k i ts) (sym left)
+        ap (λ p. run m p ts') to ∙ ap (λ (l : List K). run m r.parent l) new
+        ∙ ap (λ (v : Record). run m v.parent (renewed join e ts i v.first v.second)) is ∙ ap (λ (k : ℕ). run k (Some i) ts) (sym left) ∙ ap (λ p. run (n - d) p ts) (sym at_i)
 
     -- a turn at a node whose children bear x and y
-    steps_on : (n p a b q : ℕ) (ts : List K) (x y : K) (r : Record) → p < 65535 → at recs p ≡ r → r.first ≡ a → r.second ≡ b → r.parent ≡ q → Has ts a x → Has ts b y
-        → run (suc n) p ts ≡ run n q (set ts p (join x y))
-    steps_on n p a b q ts x y r low is fa fb fq ha hb =
-        goes n p ts (λ z. omega arith)
-        ∙ ap (λ (v : Record). run n v.parent (renewed join e ts p v.first v.second)) is
-        ∙ ap (λ (m : ℕ). run n m (renewed join e ts p r.first r.second)) fq
+    steps_on : (n p a b : ℕ) (q : Link) (ts : List K) (x y : K) (r : Record) → at recs p ≡ r → r.first ≡ a → r.second ≡ b → r.parent ≡ q → Has ts a x → Has ts b y
+        → run (suc n) (Some p) ts ≡ run n q (set ts p (join x y))
+    steps_on n p a b q ts x y r is fa fb fq ha hb =
+        ap (λ (v : Record). run n v.parent (renewed join e ts p v.first v.second)) is
+        ∙ ap (λ m. run n m (renewed join e ts p r.first r.second)) fq
         ∙ ap (λ (m : ℕ). run n q (renewed join e ts p m r.second)) fa
         ∙ ap (λ (m : ℕ). run n q (renewed join e ts p a m)) fb
         ∙ ap (λ (v : K). run n q (set ts p (join v (get_or ts b e)))) (ha.reads e)
         ∙ ap (λ (v : K). run n q (set ts p (join x v))) (hb.reads e)
-
-    below : (f : List (NodeFrame K)) (t : PlacedNodes K) (p : ℕ) → LiesAmong recs f t → 1 ≤ occurs_around p f → p < 65535
-    below f t p h some = elim (cases_lt p 65535) [ inl l ↦ l | inr l ↦ let z = h.low p l in absurd (omega arith) ]
 
     -- what the run leaves: the entries of the whole plan, and nothing else changed
     pub record Climbs (ts ts' : List K) (f : List (NodeFrame K)) (t : PlacedNodes K) : Type 0 where
@@ -97,9 +90,8 @@ module _ {K : Type 0} (join : K → K → K) (e : K) where
         let s = one_same p in
         let o = h.once p in
         let x : K = join (tally_of join e (unplaced t)) (tally_of join e (unplaced b)) in
-        let low : p < 65535 = below (first k p r C g b ∷ f) t p h (omega arith) in
-        let turn : run (suc n) p ts ≡ run n (above f) (set ts p x) =
-        steps_on n p (place_of t) (place_of b) (above f) ts _ _ (in_record (kind_of k) C g (place_of t) (place_of b) (above f) r) low h.around.0.reads refl refl refl (root_bears ts t tot) (root_bears ts b bes.1) in
+        let turn : run (suc n) (Some p) ts ≡ run n (above f) (set ts p x) =
+        steps_on n p (place_of t) (place_of b) (above f) ts _ _ (in_record (kind_of k) C g (place_of t) (place_of b) (above f) r) h.around.0.reads refl refl refl (root_bears ts t tot) (root_bears ts b bes.1) in
         let here : Has (set ts p x) p (tally_of join e (unplaced (node_at k p r C g t b))) = subst (λ (v : K). Has (set ts p x) p v) (joins k C g t b) (bears_same ts p x bes.0) in
         let on : Climbs (set ts p x) (run n (above f) (set ts p x)) f (node_at k p r C g t b) =
         climbs n f (node_at k p r C g t b) (set ts p x) (up_first recs f k p r C g t b h) (omega arith)
@@ -114,9 +106,8 @@ module _ {K : Type 0} (join : K → K → K) (e : K) where
         let s = one_same p in
         let o = h.once p in
         let x : K = join (tally_of join e (unplaced a)) (tally_of join e (unplaced t)) in
-        let low : p < 65535 = below (second k p r C g a ∷ f) t p h (omega arith) in
-        let turn : run (suc n) p ts ≡ run n (above f) (set ts p x) =
-        steps_on n p (place_of a) (place_of t) (above f) ts _ _ (in_record (kind_of k) C g (place_of a) (place_of t) (above f) r) low h.around.0.reads refl refl refl (root_bears ts a bes.1) (root_bears ts t tot) in
+        let turn : run (suc n) (Some p) ts ≡ run n (above f) (set ts p x) =
+        steps_on n p (place_of a) (place_of t) (above f) ts _ _ (in_record (kind_of k) C g (place_of a) (place_of t) (above f) r) h.around.0.reads refl refl refl (root_bears ts a bes.1) (root_bears ts t tot) in
         let here : Has (set ts p x) p (tally_of join e (unplaced (node_at k p r C g a t))) = subst (λ (v : K). Has (set ts p x) p v) (joins k C g a t) (bears_same ts p x bes.0) in
         let on : Climbs (set ts p x) (run n (above f) (set ts p x)) f (node_at k p r C g a t) =
         climbs n f (node_at k p r C g a t) (set ts p x) (up_second recs f k p r C g a t h) (omega arith)

@@ -12,6 +12,7 @@ use Rattle.quadtreap.specs.Tree.{Reading, Content, reading, box}
 use Rattle.quadtreap.specs.Rank.{put}
 use Rattle.quadtreap.specs.Find.{of_code, lookup}
 use Rattle.tables.specs.Calls.{Reply, Call, enters, is_some, present, full, reads, next, roll, reply}
+use Rattle.records.specs.Links.{Link}
 use Rattle.records.specs.Kinds.{is_reading}
 use Rattle.records.specs.PlacedNodes.{leaf_at, record_of}
 use Rattle.records.specs.Writes.{at, planted}
@@ -103,7 +104,7 @@ module _ {K : Type 0} (join : K → K → K) (e : K) where
         }
 
     -- the leaf of the reading with the code
-    own_content : (c : Content K) (p i : ℕ) (C : Box) (q : Record) → q ≡ record_of p (leaf_at i C c) → is_reading q.kind ≡ true → q.rank.code ≡ k → is_some (of_code k c) ≡ true
+    own_content : (c : Content K) (p : Link) (i : ℕ) (C : Box) (q : Record) → q ≡ record_of p (leaf_at i C c) → is_reading q.kind ≡ true → q.rank.code ≡ k → is_some (of_code k c) ≡ true
     own_content (reading r) p i C q is kind code =
         ap (λ b. is_some (cond b (some r) none)) (eq-eqb k r.code (sym code ∙ ap (λ (x : Record). x.rank.code) is))
     own_content (box I) p i C q is kind code = absurd (mathlib.Core.Bool.false≢true (sym (ap (λ (x : Record). is_reading x.kind) is) ∙ kind))

@@ -11,6 +11,7 @@ use Rattle.quadtreap.specs.Tree.{Reading, Content, reading, box, outer, tree_of,
 use Rattle.quadtreap.specs.Enter.{leads_all}
 use Rattle.quadtreap.specs.Find.{content_at, of_code, map_find, lookup}
 use Rattle.records.specs.Kinds.{is_reading}
+use Rattle.records.specs.Links.{Link}
 use Rattle.records.specs.PlacedNodes.{leaf_at, record_of, above, LiesIn}
 use Rattle.records.specs.Writes.{at}
 use Rattle.records.specs.PlacedPairs.{PlacedPairs, placed_leaf, placed_pair, nodes_of, tree_in, top_place, PairFrame, on_left_at, on_right_at, on_outer_at, put_in_all, frames, node_frames}
@@ -111,7 +112,7 @@ module _ {K : Type 0} (k : ℕ) where
           }
 
 -- what the leaf holds is no reading with the code
-other_content : {K : Type 0} (k : ℕ) (c : Content K) (p i : ℕ) (C : Box) (q : Record) → q ≡ record_of p (leaf_at i C c) → (is_reading q.kind ≡ false) ⊎ (q.rank.code ≢ k) → of_code k c ≡ none
+other_content : {K : Type 0} (k : ℕ) (c : Content K) (p : Link) (i : ℕ) (C : Box) (q : Record) → q ≡ record_of p (leaf_at i C c) → (is_reading q.kind ≡ false) ⊎ (q.rank.code ≢ k) → of_code k c ≡ none
 other_content k (reading r) p i C q is (inl far) = absurd (mathlib.Core.Bool.false≢true (sym far ∙ ap (λ (x : Record). is_reading x.kind) is))
 other_content k (reading r) p i C q is (inr far) = ap (λ b. cond b (some r) none) (ne_eqb k r.code (λ z. far (ap (λ (x : Record). x.rank.code) is ∙ sym z)))
 other_content k (box I) p i C q is way = refl

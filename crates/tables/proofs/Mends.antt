@@ -8,6 +8,7 @@ use Rattle.quadtreap.specs.declared.rank.Rank.{Rank}
 use Rattle.quadtreap.specs.Rank.{earlier}
 use Rattle.quadtreap.specs.Pairs.{unranked}
 use Rattle.quadtreap.specs.Walk.{tally_of}
+use Rattle.records.specs.Links.{Link}
 use Rattle.records.specs.PlacedNodes.{PlacedNodes, leaf_at, node_at, pair_at, ordered_nodes, carried, unplaced, place_of, one, occurs, NodesRecorded, NodeFrame, first, second, above}
 use Rattle.records.specs.Writes.{at}
 use Rattle.records.specs.PlacedPairs.{PlacedPairs, placed_leaf, placed_pair, nodes_of, tree_in, top_place, PairFrame, on_left_at, on_right_at, on_outer_at, node_frames, ordered_at, made_before, settled_at, risen_over}
@@ -56,7 +57,7 @@ module _ {K : Type 0} (join : K → K → K) (e : K) where
     pub totals : Totals join e ts' t
     pub beyond : Beyond (λ j. one j s + one j w) ts ts'
 
-  pub mends : (recs : List Record) (ts : List K) (p s w : ℕ) (r : Rank) (C : Box) (g : Option Box) (E : Box) (L R O : PlacedNodes K) → NodesRecorded recs p (pair_at s w r C g E L R O)
+  pub mends : (recs : List Record) (ts : List K) (p : Link) (s w : ℕ) (r : Rank) (C : Box) (g : Option Box) (E : Box) (L R O : PlacedNodes K) → NodesRecorded recs p (pair_at s w r C g E L R O)
       → ((j : ℕ) → occurs j (pair_at s w r C g E L R O) ≤ 1) → s < length ts → w < length ts → Totals join e ts L → Totals join e ts R → Totals join e ts O
       → Mends ts (mended join e recs (Some s) ts) s w (pair_at s w r C g E L R O)
   mends recs ts p s w r C g E L R O h once ins inw hl hr ho =
@@ -98,7 +99,7 @@ module _ {K : Type 0} (join : K → K → K) (e : K) where
       }
 
   -- the same of a pair in the order of its ranks
-  pub mends_ordered : (recs : List Record) (ts : List K) (p s w : ℕ) (C : Box) (g : Option Box) (E : Box) (L R O : PlacedNodes K) → NodesRecorded recs p (ordered_nodes s w C g E L R O)
+  pub mends_ordered : (recs : List Record) (ts : List K) (p : Link) (s w : ℕ) (C : Box) (g : Option Box) (E : Box) (L R O : PlacedNodes K) → NodesRecorded recs p (ordered_nodes s w C g E L R O)
       → ((j : ℕ) → (one j s + ((one j w + (occurs j L + occurs j R)) + occurs j O)) ≤ 1) → s < length ts → w < length ts → Totals join e ts L → Totals join e ts R → Totals join e ts O
       → Mends ts (mended join e recs (Some s) ts) s w (ordered_nodes s w C g E L R O)
   mends_ordered recs ts p s w C none E L R O h once ins inw hl hr ho =
@@ -109,13 +110,13 @@ module _ {K : Type 0} (join : K → K → K) (e : K) where
   mends_ordered recs ts p s w C (some I) E L R O h once ins inw hl hr ho = mends recs ts p s w unranked C (some I) E L R O h once ins inw hl hr ho
 
   -- what a table has of a ordered pair
-  ordered_parts : (recs : List Record) (p s w : ℕ) (C : Box) (g : Option Box) (E : Box) (L R O : PlacedNodes K) → NodesRecorded recs p (ordered_nodes s w C g E L R O) → NodesRecorded recs s O × NodesRecorded recs w L
+  ordered_parts : (recs : List Record) (p : Link) (s w : ℕ) (C : Box) (g : Option Box) (E : Box) (L R O : PlacedNodes K) → NodesRecorded recs p (ordered_nodes s w C g E L R O) → NodesRecorded recs (Some s) O × NodesRecorded recs (Some w) L
   ordered_parts recs p s w C none E L R O =
-      elim (earlier (carried R) (carried L)) as (λ b. NodesRecorded recs p (cond b (pair_at s w (carried R) C none E R L O) (pair_at s w (carried L) C none E L R O)) → NodesRecorded recs s O × NodesRecorded recs w L) [ true ↦ λ h. (h.2, h.1.2) | false ↦ λ h. (h.2, h.1.1) ]
+      elim (earlier (carried R) (carried L)) as (λ b. NodesRecorded recs p (cond b (pair_at s w (carried R) C none E R L O) (pair_at s w (carried L) C none E L R O)) → NodesRecorded recs (Some s) O × NodesRecorded recs (Some w) L) [ true ↦ λ h. (h.2, h.1.2) | false ↦ λ h. (h.2, h.1.1) ]
   ordered_parts recs p s w C (some I) E L R O = λ h. (h.2, h.1.1)
 
   -- both pairs of a step
-  abbrev pub mended_both : List Record → ℕ → Rattle.std.specs.Prelude.Option ℕ → List K → List K
+  abbrev pub mended_both : List Record → ℕ → Link → List K → List K
   mended_both recs top low ts = mended join e recs (Some top) (mended join e recs low ts)
 
   pub record Steps (ts ts' : List K) (gs : List (PairFrame K)) (u : PlacedPairs K) : Type 0 where
@@ -152,7 +153,7 @@ module _ {K : Type 0} (join : K → K → K) (e : K) where
       let os = one_same s in
       let oy = one_same y in
       let l = subst (NodesRecorded recs' (above (node_frames gs))) is h'.laid in
-      let m1 = mends recs' ts y s w unranked C (some F) E (nodes_of o) (nodes_of R) (nodes_of O) (ordered_parts recs' (above (node_frames gs)) y v C k F (nodes_of A) (nodes_of D) (nodes_of low) l).0 (λ j. let n = h.once j in omega arith)
+      let m1 = mends recs' ts (Some y) s w unranked C (some F) E (nodes_of o) (nodes_of R) (nodes_of O) (ordered_parts recs' (above (node_frames gs)) y v C k F (nodes_of A) (nodes_of D) (nodes_of low) l).0 (λ j. let n = h.once j in omega arith)
       bes.2.0 bes.0 tot.2 bes.1 bes.2.1 in
       let ts1 : List K = mended join e recs' (Some s) ts in
       let keep : (z : PlacedNodes K) → ((j : ℕ) → occurs j z + (one j s + one j w) ≤ 1) → Totals join e ts z → Totals join e ts1 z = λ z apart g. totals_in (λ j. one j s + one j w) ts ts1 m1.beyond z (λ j c. let n = apart j in omega arith) g in
@@ -181,7 +182,7 @@ module _ {K : Type 0} (join : K → K → K) (e : K) where
       let os = one_same s in
       let ox = one_same x in
       let l = subst (NodesRecorded recs' (above (node_frames gs))) is h'.laid in
-      let m1 = mends recs' ts v s w r (outer (tree_in A)) i E (nodes_of L) (nodes_of R) (nodes_of A) (ordered_parts recs' (above (node_frames gs)) x v B i F (nodes_of low) (nodes_of D) (nodes_of o) l).1 (λ j. let n = h.once j in omega arith)
+      let m1 = mends recs' ts (Some v) s w r (outer (tree_in A)) i E (nodes_of L) (nodes_of R) (nodes_of A) (ordered_parts recs' (above (node_frames gs)) x v B i F (nodes_of low) (nodes_of D) (nodes_of o) l).1 (λ j. let n = h.once j in omega arith)
       bes.0 bes.1.0.within bes.1.1 bes.1.2 tot.1.1 in
       let ts1 : List K = mended join e recs' (Some s) ts in
       let keep : (z : PlacedNodes K) → ((j : ℕ) → occurs j z + (one j s + one j w) ≤ 1) → Totals join e ts z → Totals join e ts1 z = λ z apart g. totals_in (λ j. one j s + one j w) ts ts1 m1.beyond z (λ j c. let n = apart j in omega arith) g in

@@ -1,5 +1,5 @@
 -- Each place of a map is a node's or free, and what stays where the records stay.
-use Rattle.std.proofs.Common.{◌≡◌, ℕ, ◌+◌, ◌≤◌, cond, List, sym, ap, subst, inl, inr, arith}
+use Rattle.std.proofs.Common.{◌≡◌, ℕ, ◌+◌, ◌≤◌, cond, List, sym, ap, subst, inl, inr, arith, None}
 use Rattle.std.proofs.lemmas.Bool.{cases_lt, le-leb}
 use Rattle.records.specs.declared.record.Record.{Record}
 use Rattle.records.specs.declared.places.FreePlaces.{FreePlaces}
@@ -32,7 +32,7 @@ free_past N recs f spare h j far =
 -- what lies in a table stays where its records stay
 pub kept_on : {K : Type 0} (used : ℕ → ℕ) (recs recs' : List Record) → Elsewhere used recs recs' → (t : PlacedNodes K) → ((j : ℕ) → 1 ≤ occurs j t → used j ≡ 0) → LiesIn recs t → LiesIn recs' t
 kept_on used recs recs' same t off h = record {
-  laid = same_nodes recs recs' same.long 65535 t (λ j z. same.reads j (off j z)) h.laid;
+  laid = same_nodes recs recs' same.long None t (λ j z. same.reads j (off j z)) h.laid;
   once = h.once;
   low = h.low;
   sized = h.sized;

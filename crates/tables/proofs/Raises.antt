@@ -1,13 +1,14 @@
 -- The whole rise: the plan, and the entries of all its nodes.
-use Rattle.std.proofs.Common.{◌≡◌, ℕ, zero, suc, ◌+◌, ◌-◌, ◌<◌, ◌≤◌, cond, ◌≢◌, List, [], ◌∷◌, length, sym, refl, ap, ◌∙◌, subst, arith, Some}
-use Rattle.std.proofs.lemmas.Bool.{eq-eqb, ne_eqb}
+use Rattle.std.proofs.Common.{◌≡◌, ℕ, zero, suc, ◌+◌, ◌-◌, ◌<◌, ◌≤◌, cond, List, [], ◌∷◌, length, sym, refl, ap, ◌∙◌, subst, arith, Some, None, true, false}
+use Rattle.std.specs.Option.{is_none}
 use Rattle.records.specs.declared.record.Record.{Record}
+use Rattle.records.specs.Links.{Link}
 use Rattle.records.specs.PlacedNodes.{PlacedNodes, leaf_at, node_at, place_of, occurs, LiesIn, NodesRecorded, record_of, above}
 use Rattle.records.specs.Writes.{at, Rise, settled_in}
 use Rattle.records.specs.PlacedPairs.{PlacedPairs, nodes_of, top_place, PairFrame, on_left_at, on_right_at, on_outer_at, put_in, put_in_all, node_frames, settled_at, settled_all, risen_over}
 use Rattle.tables.specs.Totals.{Totals, mended, Tables, tables, raised}
 use Rattle.records.specs.Elsewhere.{Elsewhere}
-use Rattle.records.proofs.FrameLaws.{one_same, root_lies, occurs_around, occurs_plug, LiesAmong}
+use Rattle.records.proofs.FrameLaws.{root_lies, occurs_around, occurs_plug, LiesAmong}
 use Rattle.records.proofs.SettleLaws.{settles}
 use Rattle.records.proofs.PairLaws.{nodes_frames, lies_whole}
 use Rattle.records.proofs.CountLaws.{places_settle}
@@ -19,20 +20,20 @@ module _ {K : Type 0} (join : K → K → K) (e : K) where
   abbrev run : ℕ → List Record → List K → ℕ → Tables K
   run n recs ts s = raised join e n recs ts s
 
-  pub stops : (n : ℕ) (recs : List Record) (ts : List K) (s : ℕ) → (at recs s).parent ≡ 65535 → run n recs ts s ≡ tables recs ts s
+  pub stops : (n : ℕ) (recs : List Record) (ts : List K) (s : ℕ) → is_none (at recs s).parent ≡ true → run n recs ts s ≡ tables recs ts s
   stops zero recs ts s is = refl
   stops (suc n) recs ts s is =
       let v : Rise = settled_in recs s in
-      ap (λ b. cond b (tables recs ts s) (run n v.table (mended_both join e v.table v.top v.low ts) v.top)) (eq-eqb (at recs s).parent 65535 is)
+      ap (λ b. cond b (tables recs ts s) (run n v.table (mended_both join e v.table v.top v.low ts) v.top)) is
 
-  pub goes : (n : ℕ) (recs : List Record) (ts : List K) (s : ℕ) → (at recs s).parent ≢ 65535
+  pub goes : (n : ℕ) (recs : List Record) (ts : List K) (s : ℕ) → is_none (at recs s).parent ≡ false
       → run (suc n) recs ts s ≡ run n (settled_in recs s).table (mended_both join e (settled_in recs s).table (settled_in recs s).top (settled_in recs s).low ts) (settled_in recs s).top
   goes n recs ts s far =
       let v : Rise = settled_in recs s in
-      ap (λ b. cond b (tables recs ts s) (run n v.table (mended_both join e v.table v.top v.low ts) v.top)) (ne_eqb (at recs s).parent 65535 far)
+      ap (λ b. cond b (tables recs ts s) (run n v.table (mended_both join e v.table v.top v.low ts) v.top)) far
 
   -- one turn of the loop, with d behind it
-  pub turns : (n d : ℕ) (recs recs' : List Record) (ts ts1 ts2 : List K) (s top : ℕ) (low : Rattle.std.specs.Prelude.Option ℕ) (r : Record) → d < n → r ≡ at recs s → r.parent ≢ 65535 → recs' ≡ (settled_in recs s).table → top ≡ (settled_in recs s).top → low ≡ (settled_in recs s).low
+  pub turns : (n d : ℕ) (recs recs' : List Record) (ts ts1 ts2 : List K) (s top : ℕ) (low : Link) (r : Record) → d < n → r ≡ at recs s → is_none r.parent ≡ false → recs' ≡ (settled_in recs s).table → top ≡ (settled_in recs s).top → low ≡ (settled_in recs s).low
       → ts1 ≡ mended join e recs' low ts → ts2 ≡ mended join e recs' (Some top) ts1 → run (n - (d + 1)) recs' ts2 top ≡ run (n - d) recs ts s
   turns n d recs recs' ts ts1 ts2 s top low r go is far er et el e1 e2 =
       let left : n - d ≡ suc (n - (d + 1)) = omega arith in
@@ -41,19 +42,19 @@ module _ {K : Type 0} (join : K → K → K) (e : K) where
       ∙ ap (λ (l : List Record). run m l (mended_both join e l top low ts) top) er
       ∙ ap (λ (p : ℕ). run m (settled_in recs s).table (mended_both join e (settled_in recs s).table p low ts) p) et
       ∙ ap (λ p. run m (settled_in recs s).table (mended_both join e (settled_in recs s).table (settled_in recs s).top p ts) (settled_in recs s).top) el
-      ∙ sym (goes m recs ts s (λ z. far (ap (λ (v : Record). v.parent) is ∙ z))) ∙ ap (λ (k : ℕ). run k recs ts s) (sym left)
+      ∙ sym (goes m recs ts s (ap (λ (v : Record). is_none v.parent) (sym is) ∙ far)) ∙ ap (λ (k : ℕ). run k recs ts s) (sym left)
 
-  root_parent : (p : ℕ) (t : PlacedNodes K) → (record_of p t).parent ≡ p
+  root_parent : (p : Link) (t : PlacedNodes K) → (record_of p t).parent ≡ p
   root_parent p (leaf_at q C c) = refl
   root_parent p (node_at k q r C g a b) = refl
 
-  parent_is : (recs : List Record) (p : ℕ) (t : PlacedNodes K) → NodesRecorded recs p t → (at recs (place_of t)).parent ≡ p
+  parent_is : (recs : List Record) (p : Link) (t : PlacedNodes K) → NodesRecorded recs p t → (at recs (place_of t)).parent ≡ p
   parent_is recs p t h = ap (λ (v : Record). v.parent) (root_lies recs p t h).reads ∙ root_parent p t
 
-  above_used : (g : PairFrame K) (gs : List (PairFrame K)) → 1 ≤ occurs_around (above (node_frames (g ∷ gs))) (node_frames (g ∷ gs))
-  above_used (on_left_at s w r C i E R O) gs = let o = one_same w in omega arith
-  above_used (on_right_at s w r C i E L O) gs = let o = one_same w in omega arith
-  above_used (on_outer_at s w r C i E L R) gs = let o = one_same s in omega arith
+  has_parent : (g : PairFrame K) (gs : List (PairFrame K)) → is_none (above (node_frames (g ∷ gs))) ≡ false
+  has_parent (on_left_at s w r C i E R O) gs = refl
+  has_parent (on_right_at s w r C i E L O) gs = refl
+  has_parent (on_outer_at s w r C i E L R) gs = refl
 
   in_path : (gs : List (PairFrame K)) (t : PlacedPairs K) (j : ℕ) → occurs j (nodes_of (put_in_all gs t)) ≡ occurs j (nodes_of t) + occurs_around j (node_frames gs)
   in_path gs t j = ap (occurs j) (nodes_frames gs t) ∙ occurs_plug (node_frames gs) (nodes_of t) j
@@ -69,7 +70,7 @@ module _ {K : Type 0} (join : K → K → K) (e : K) where
   pub raises : (n : ℕ) (gs : List (PairFrame K)) (t : PlacedPairs K) (recs : List Record) (ts : List K) → LiesAmong recs (node_frames gs) (nodes_of t) → length gs ≤ n → Totals join e ts (nodes_of t) → Beside join e ts (node_frames gs)
       → Raised recs ts gs t (run n recs ts (top_place t))
   raises n [] t recs ts h few tot bes =
-      subst (Raised recs ts [] t) (sym (stops n recs ts (top_place t) (parent_is recs 65535 (nodes_of t) h.laid)))
+      subst (Raised recs ts [] t) (sym (stops n recs ts (top_place t) (ap is_none (parent_is recs None (nodes_of t) h.laid))))
       record {
         kept = lies_whole recs [] t h;
         top = refl;
@@ -80,9 +81,7 @@ module _ {K : Type 0} (join : K → K → K) (e : K) where
       }
   raises zero (g ∷ gs) t recs ts h few tot bes = absurd (omega arith)
   raises (suc n) (g ∷ gs) t recs ts h few tot bes =
-      let p : ℕ = above (node_frames (g ∷ gs)) in
-      let au = above_used g gs in
-      let far : (at recs (top_place t)).parent ≢ 65535 = λ z. let is : p ≡ 65535 = sym (parent_is recs p (nodes_of t) h.laid) ∙ z in let l = h.low p (omega arith) in absurd (omega arith) in
+      let far : is_none (at recs (top_place t)).parent ≡ false = ap is_none (parent_is recs (above (node_frames (g ∷ gs))) (nodes_of t) h.laid) ∙ has_parent g gs in
       let m = settles recs gs g t h in
       let v : Rise = settled_in recs (top_place t) in
       let u : PlacedPairs K = settled_at g t in

@@ -4,6 +4,7 @@ use Rattle.std.specs.Option.{unwrap_or}
 use Rattle.std.specs.Prelude.{Some}
 use mathlib.Core.Option.{none, some}
 use Rattle.std.proofs.lemmas.Bool.{eq-eqb, false≢true}
+use Rattle.std.specs.Option.{is_none}
 use Rattle.records.specs.declared.record.Record.{Record}
 use Rattle.records.specs.declared.places.FourPlaces.{FourPlaces}
 use Rattle.records.specs.declared.places.Sinking.{Sinking}
@@ -16,6 +17,7 @@ use Rattle.quadtreap.specs.Strike.{is_only}
 use Rattle.quadtreap.specs.Find.{of_code, lookup}
 use Rattle.tables.specs.Calls.{Reply, Call, strikes, is_some, present, roll}
 use Rattle.records.specs.Kinds.{is_reading}
+use Rattle.records.specs.Links.{Link}
 use Rattle.records.specs.PlacedNodes.{leaf_at, LiesIn, record_of, above}
 use Rattle.records.specs.Writes.{Sink, struck_in}
 use Rattle.records.specs.PlacedPairs.{PlacedPairs, placed_leaf, placed_pair, nodes_of, tree_in, PairFrame, on_left_at, on_right_at, on_outer_at, put_in_all, node_frames}
@@ -23,7 +25,7 @@ use Rattle.records.specs.StrikeMoves.{is_leaf_at}
 use Rattle.tables.specs.Finds.{LeafOf, Lacks}
 use Rattle.tables.specs.Stands.{State, state, Stands, Serves, Keeps}
 use Rattle.tables.specs.Removal.{struck_state, emptied_state}
-use Rattle.records.proofs.FrameLaws.{one_same, LiesAmong}
+use Rattle.records.proofs.FrameLaws.{LiesAmong}
 use Rattle.records.proofs.PairLaws.{lies_among}
 use Rattle.tables.proofs.Finds.{Found, held, held_lain, held_top, found}
 use Rattle.tables.proofs.StrikeStates.{without_absent, stands_emptied_state, emptied_state_past, last_live, stands_struck, struck_live, records_past, tallies_past, ends_is, v, i, n, after}
@@ -63,7 +65,7 @@ module _ {K : Type 0} (join : K → K → K) (e : K) (k : ℕ) where
   keeps_absent s gone cs st = absent s cs st (gone cs st)
 
   -- what the leaf holds is a reading with the code
-  this_content : (c : Content K) (p i : ℕ) (C : Box) (q : Record) → q ≡ record_of p (leaf_at i C c) → is_reading q.kind ≡ true → q.rank.code ≡ k → (r : Reading K) × (c ≡ reading r) × (k ≡ r.code)
+  this_content : (c : Content K) (p : Link) (i : ℕ) (C : Box) (q : Record) → q ≡ record_of p (leaf_at i C c) → is_reading q.kind ≡ true → q.rank.code ≡ k → (r : Reading K) × (c ≡ reading r) × (k ≡ r.code)
   this_content (reading r) p i C q is kind code = (r, refl, sym code ∙ ap (λ (x : Record). x.rank.code) is)
   this_content (box I) p i C q is kind code = absurd (mathlib.Core.Bool.false≢true (sym (ap (λ (x : Record). is_reading x.kind) is) ∙ kind))
 
@@ -78,18 +80,18 @@ module _ {K : Type 0} (join : K → K → K) (e : K) (k : ℕ) where
   pair_not_only (placed_leaf p C c) h = absurd (false≢true (sym h))
   pair_not_only (placed_pair s w r C i E L R O) h = refl
 
-  not_only : (gs : List (PairFrame K)) (t : PlacedPairs K) → above (node_frames gs) ≢ 65535 → is_only (tree_in (put_in_all gs t)) k ≡ false
-  not_only [] t up = absurd (up refl)
+  not_only : (gs : List (PairFrame K)) (t : PlacedPairs K) → is_none (above (node_frames gs)) ≡ false → is_only (tree_in (put_in_all gs t)) k ≡ false
+  not_only [] t up = absurd (false≢true (sym up))
   not_only (on_left_at s w r C i E R O ∷ gs) t up = pair_not_only _ (stays_pair gs (placed_pair s w r C i E t R O) refl)
   not_only (on_right_at s w r C i E L O ∷ gs) t up = pair_not_only _ (stays_pair gs (placed_pair s w r C i E L t O) refl)
   not_only (on_outer_at s w r C i E L R ∷ gs) t up = pair_not_only _ (stays_pair gs (placed_pair s w r C i E L R t) refl)
 
   -- a leaf under no other node is all
-  alone : (recs : List Record) (gs : List (PairFrame K)) (t : PlacedPairs K) → LiesAmong recs (node_frames gs) (nodes_of t) → above (node_frames gs) ≡ 65535 → t ≡ put_in_all gs t
+  alone : (recs : List Record) (gs : List (PairFrame K)) (t : PlacedPairs K) → LiesAmong recs (node_frames gs) (nodes_of t) → is_none (above (node_frames gs)) ≡ true → t ≡ put_in_all gs t
   alone recs [] t h up = refl
-  alone recs (on_left_at s w r C i E R O ∷ gs) t h up = let o = one_same w in let z = h.low w (omega arith) in absurd (omega arith)
-  alone recs (on_right_at s w r C i E L O ∷ gs) t h up = let o = one_same w in let z = h.low w (omega arith) in absurd (omega arith)
-  alone recs (on_outer_at s w r C i E L R ∷ gs) t h up = let o = one_same s in let z = h.low s (omega arith) in absurd (omega arith)
+  alone recs (on_left_at s w r C i E R O ∷ gs) t h up = absurd (false≢true up)
+  alone recs (on_right_at s w r C i E L O ∷ gs) t h up = absurd (false≢true up)
+  alone recs (on_outer_at s w r C i E L R ∷ gs) t h up = absurd (false≢true up)
 
   module _ (s : State K) (i₀ : ℕ) (q : Record) (l : LeafOf s k i₀ q) where
     abbrev root : ℕ
@@ -118,14 +120,14 @@ module _ {K : Type 0} (join : K → K → K) (e : K) (k : ℕ) where
       told : (m : ℕ) → m ≡ length (without k rs) → Ok m ≡ cond (present k rs) (Ok (length (without k rs))) (Err Absent)
       told m is' = ap Ok is' ∙ ap (λ b. cond b (Ok (length (without k rs))) (Err Absent)) (sym here)
 
-      only_leaf : q.parent ≡ 65535 → placed_leaf i₀ f.box (reading this.0) ≡ held k join e s rs st root far
+      only_leaf : is_none q.parent ≡ true → placed_leaf i₀ f.box (reading this.0) ≡ held k join e s rs st root far
       only_leaf up =
           let kept : LiesIn s.records (nodes_of (put_in_all f.path (placed_leaf i₀ f.box f.content))) = subst (λ u. LiesIn s.records (nodes_of u)) (sym f.whole) (held_lain k join e s rs st root far).kept in
           ap (placed_leaf i₀ f.box) (sym this.1)
-          ∙ alone s.records f.path (placed_leaf i₀ f.box f.content) (lies_among s.records f.path (placed_leaf i₀ f.box f.content) kept) (sym parent ∙ up)
+          ∙ alone s.records f.path (placed_leaf i₀ f.box f.content) (lies_among s.records f.path (placed_leaf i₀ f.box f.content) kept) (ap is_none (sym parent) ∙ up)
           ∙ f.whole
 
-      serves_last : q.parent ≡ 65535 → (m : ℕ) → m ≡ s.live - 1 → Serves join e s (emptied_state s i₀) (strikes k) cs (Ok m)
+      serves_last : is_none q.parent ≡ true → (m : ℕ) → m ≡ s.live - 1 → Serves join e s (emptied_state s i₀) (strikes k) cs (Ok m)
       serves_last up m live =
           let lone = only_leaf up in
           record {
@@ -137,10 +139,10 @@ module _ {K : Type 0} (join : K → K → K) (e : K) (k : ℕ) where
             unchanged = λ h. absurd (false≢true h);
           }
 
-      several : q.parent ≢ 65535 → is_only (tree_in (held k join e s rs st root far)) k ≡ false
-      several up = subst (λ u. is_only (tree_in u) k ≡ false) f.whole (not_only f.path (placed_leaf i₀ f.box f.content) (λ z. up (parent ∙ z)))
+      several : is_none q.parent ≡ false → is_only (tree_in (held k join e s rs st root far)) k ≡ false
+      several up = subst (λ u. is_only (tree_in u) k ≡ false) f.whole (not_only f.path (placed_leaf i₀ f.box f.content) (ap is_none (sym parent) ∙ up))
 
-      module _ (up : q.parent ≢ 65535) where
+      module _ (up : is_none q.parent ≡ false) where
         abbrev end : Sink
         end = v join e k s rs st root far here (several up)
 
@@ -173,16 +175,16 @@ module _ {K : Type 0} (join : K → K → K) (e : K) (k : ℕ) where
     same_root : (root' : ℕ) → s.root ≡ Some root' → root' ≡ root
     same_root root' here = ap (λ o. unwrap_or o 0) (sym here ∙ far)
 
-    pub keeps_last : q.parent ≡ 65535 → (m : ℕ) → m ≡ s.live - 1 → (s' : State K) → s' ≡ emptied_state s i₀ → Keeps join e s s' (strikes k) (Ok m)
+    pub keeps_last : is_none q.parent ≡ true → (m : ℕ) → m ≡ s.live - 1 → (s' : State K) → s' ≡ emptied_state s i₀ → Keeps join e s s' (strikes k) (Ok m)
     keeps_last up m live s' new cs st = subst (λ (u : State K). Serves join e s u (strikes k) cs (Ok m)) (sym new) (serves_last cs st up m live)
 
-    pub keeps_struck : q.parent ≢ 65535 → (root' : ℕ) → s.root ≡ Some root' → (recs : List Record) (l : ℕ) (p : FourPlaces) → recs ≡ (struck_in s.places s.records root' k).table → Done l p ≡ (struck_in s.places s.records root' k).ends
+    pub keeps_struck : is_none q.parent ≡ false → (root' : ℕ) → s.root ≡ Some root' → (recs : List Record) (l : ℕ) (p : FourPlaces) → recs ≡ (struck_in s.places s.records root' k).table → Done l p ≡ (struck_in s.places s.records root' k).ends
         → (m : ℕ) → m ≡ s.live - 1 → (s' : State K) → s' ≡ struck_state join e (state recs s.tallies s.places s.root s.live s.free) l p → Keeps join e s s' (strikes k) (Ok m)
     keeps_struck up root' here' recs l p table ends m live s' new cs st =
         let same = same_root root' here' in
         subst (λ (u : State K). Serves join e s u (strikes k) cs (Ok m)) (sym (new ∙ after_is cs st up recs l p (table ∙ ap (λ (m : ℕ). (struck_in s.places s.records m k).table) same) (ends ∙ ap (λ (m : ℕ). (struck_in s.places s.records m k).ends) same))) (serves_struck cs st up m live)
 
     -- a live reading is never missed, so the other answers never come
-    pub keeps_never : q.parent ≢ 65535 → (root' : ℕ) → s.root ≡ Some root' → (r : Sinking) → r ≡ (struck_in s.places s.records root' k).ends → is_done r ≡ false → (s' : State K) (a : Reply) → Keeps join e s s' (strikes k) a
+    pub keeps_never : is_none q.parent ≡ false → (root' : ℕ) → s.root ≡ Some root' → (r : Sinking) → r ≡ (struck_in s.places s.records root' k).ends → is_done r ≡ false → (s' : State K) (a : Reply) → Keeps join e s s' (strikes k) a
     keeps_never up root' here' r ends other s' a cs st =
         absurd (false≢true (sym other ∙ ap is_done (ends ∙ ap (λ (m : ℕ). (struck_in s.places s.records m k).ends) (same_root root' here') ∙ ends_done cs st up)))

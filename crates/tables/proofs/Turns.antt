@@ -1,5 +1,5 @@
 -- What the turns of a walk come to at a tree that lies in the tables.
-use Rattle.std.proofs.Common.{◌≡◌, ℕ, suc, ◌+◌, ◌-◌, ◌*◌, ◌<◌, ◌≤◌, Bool, true, false, cond, ◌≢◌, List, [], ◌∷◌, get_or, add-one, sym, refl, ap, ◌∙◌, inl, inr, arith}
+use Rattle.std.proofs.Common.{◌≡◌, ℕ, suc, ◌+◌, ◌-◌, ◌*◌, ◌<◌, ◌≤◌, Bool, true, false, cond, ◌≢◌, List, [], ◌∷◌, get_or, add-one, sym, refl, ap, ◌∙◌, inl, inr, arith, None, Some}
 use mathlib.Core.Option.{Option}
 use Rattle.std.proofs.lemmas.Bool.{cases_Bool, eq-eqb, ne_eqb}
 use Rattle.records.specs.declared.record.Record.{Record}
@@ -13,6 +13,7 @@ use Rattle.place.specs.Boxes.{Box}
 use Rattle.quadtreap.specs.Tree.{Content, reading, box, Tree, leaf, shrink, split, outer, nodes}
 use Rattle.quadtreap.specs.declared.rank.Rank.{Rank}
 use Rattle.quadtreap.specs.Walk.{Tests, Joins, Answer, answer, tally_of, taken, walk, visit, Visits}
+use Rattle.records.specs.Links.{Link}
 use Rattle.records.specs.PlacedNodes.{NodeKind, shrinks, splits, PlacedNodes, leaf_at, node_at, unplaced, grown, place_of, occurs, record_of, NodesRecorded}
 use Rattle.records.specs.Writes.{at}
 use Rattle.tables.specs.Totals.{Totals}
@@ -41,13 +42,13 @@ module _ {K : Type 0} (join : K → K → K) (e : K) (q : Tests) (laws : Joins j
   after x t = visit join e q x (t ∷ [])
 
   -- from the first child to the second, from the second to the parent, and from the root to the end
-  pub to_second : (n i p j : ℕ) (x : Answer K) → p ≢ 65535 → (at recs i).parent ≡ p → (at recs p).first ≡ i → (at recs p).second ≡ j → go (suc n) (spot (Back i) x) ≡ go n (spot (Down j) x)
-  to_second n i p j x far up is to = rw (up, ne_eqb p 65535 far, eq-eqb (at recs p).first i is, to)
+  pub to_second : (n i p j : ℕ) (x : Answer K) → (at recs i).parent ≡ Some p → (at recs p).first ≡ i → (at recs p).second ≡ j → go (suc n) (spot (Back i) x) ≡ go n (spot (Down j) x)
+  to_second n i p j x up is to = rw (up, eq-eqb (at recs p).first i is, to)
 
-  pub to_parent : (n i p : ℕ) (x : Answer K) → p ≢ 65535 → (at recs i).parent ≡ p → (at recs p).first ≢ i → go (suc n) (spot (Back i) x) ≡ go n (spot (Back p) x)
-  to_parent n i p x far up other = rw (up, ne_eqb p 65535 far, ne_eqb (at recs p).first i other)
+  pub to_parent : (n i p : ℕ) (x : Answer K) → (at recs i).parent ≡ Some p → (at recs p).first ≢ i → go (suc n) (spot (Back i) x) ≡ go n (spot (Back p) x)
+  to_parent n i p x up other = rw (up, ne_eqb (at recs p).first i other)
 
-  pub to_end : (n i : ℕ) (x : Answer K) → (at recs i).parent ≡ 65535 → go (suc n) (spot (Back i) x) ≡ tallied x
+  pub to_end : (n i : ℕ) (x : Answer K) → (at recs i).parent ≡ None → go (suc n) (spot (Back i) x) ≡ tallied x
   to_end n i x up = rw up (stops join e q recs ts n (spot Finished x) refl)
 
   -- the record and the entry of a tree's root
@@ -55,7 +56,7 @@ module _ {K : Type 0} (join : K → K → K) (e : K) (q : Tests) (laws : Joins j
   root_bears (leaf_at i C c) h = h.reads e
   root_bears (node_at k i r C g a b) h = h.0.reads e
 
-  root_parent : (p : ℕ) (t : PlacedNodes K) → (record_of p t).parent ≡ p
+  root_parent : (p : Link) (t : PlacedNodes K) → (record_of p t).parent ≡ p
   root_parent p (leaf_at i C c) = refl
   root_parent p (node_at k i r C g a b) = refl
 
@@ -64,19 +65,15 @@ module _ {K : Type 0} (join : K → K → K) (e : K) (q : Tests) (laws : Joins j
   chosen m h r = cond m Misses (cond h Held (crossed q r))
 
   -- The tree t lies in the tables, under a parent at p.
-  pub record Laid (p : ℕ) (t : PlacedNodes K) : Type 0 where
+  pub record Laid (p : Link) (t : PlacedNodes K) : Type 0 where
     pub laid : NodesRecorded recs p t
     pub totals : Totals join e ts t
     pub once : (i : ℕ) → occurs i t ≤ 1
-    pub low : (i : ℕ) → 65535 ≤ i → occurs i t ≡ 0
 
-  pub far : (p : ℕ) (t : PlacedNodes K) → Laid p t → place_of t ≢ 65535
-  far p t h is = let o = root_occurs t in let z = h.low (place_of t) (omega arith) in omega arith
-
-  reads_parent : (p : ℕ) (t : PlacedNodes K) → Laid p t → (at recs (place_of t)).parent ≡ p
+  reads_parent : (p : Link) (t : PlacedNodes K) → Laid p t → (at recs (place_of t)).parent ≡ p
   reads_parent p t h = ap (λ (r : Record). r.parent) (root_lies recs p t h.laid).reads ∙ root_parent p t
 
-  lands : (p : ℕ) (t : PlacedNodes K) (x : Answer K) (m d : Bool) → Laid p t → q.misses (outer (unplaced t)) ≡ m → q.held (outer (unplaced t)) ≡ d
+  lands : (p : Link) (t : PlacedNodes K) (x : Answer K) (m d : Bool) → Laid p t → q.misses (outer (unplaced t)) ≡ m → q.held (outer (unplaced t)) ≡ d
       → (n : ℕ) → go (suc n) (spot (Down (place_of t)) x) ≡ go n (arrived join (place_of t) (record_of p t) (tally_of join e (unplaced t)) (tallied x) (chosen m d (record_of p t)))
   lands p t x m d h em ed n = rw ((root_lies recs p t h.laid).reads, root_bears t h.totals, root_outer p t, em, ed)
 
@@ -99,17 +96,17 @@ module _ {K : Type 0} (join : K → K → K) (e : K) (q : Tests) (laws : Joins j
         run = λ n. let c : 1 + n ≡ suc n = omega arith in rw (c, f n) (ap (λ (z : Answer K). go n (spot (Back (place_of t)) z)) (sym is));
       }
 
-  pub missed : (p : ℕ) (t : PlacedNodes K) (x : Answer K) → Laid p t → q.misses (outer (unplaced t)) ≡ true → Passes t x
+  pub missed : (p : Link) (t : PlacedNodes K) (x : Answer K) → Laid p t → q.misses (outer (unplaced t)) ≡ true → Passes t x
   missed p t x h em = at_once t x x (visits.misses x (unplaced t) [] em) (lands p t x true (q.held (outer (unplaced t))) h em refl)
 
-  pub kept_whole : (p : ℕ) (t : PlacedNodes K) (x : Answer K) → Laid p t → q.misses (outer (unplaced t)) ≡ false → q.held (outer (unplaced t)) ≡ true → Passes t x
+  pub kept_whole : (p : Link) (t : PlacedNodes K) (x : Answer K) → Laid p t → q.misses (outer (unplaced t)) ≡ false → q.held (outer (unplaced t)) ≡ true → Passes t x
   kept_whole p t x h em ed = at_once t x _ (visits.held x (unplaced t) [] em ed) (lands p t x false true h em ed)
 
   neutral_after : (a : K) → join a e ≡ a
   neutral_after a = laws.comm a e ∙ laws.neutral a
 
   -- what a leaf that crosses is taken for
-  leaf_takes : (p i : ℕ) (C : Box) (c : Content K) (x : Answer K)
+  leaf_takes : (p : Link) (i : ℕ) (C : Box) (c : Content K) (x : Answer K)
       → arrived join i (record_of p (leaf_at i C c)) (tally_of join e (leaf C c)) (tallied x) (crossed q (record_of p (leaf_at i C c))) ≡ spot (Back i) (answer (join x.tally (taken e q c)) x.expanded)
   leaf_takes p i C (reading r) x =
       elim (q.has r.code) as
@@ -119,7 +116,7 @@ module _ {K : Type 0} (join : K → K → K) (e : K) (q : Tests) (laws : Joins j
       ]
   leaf_takes p i C (box I) x = ap (λ (k : K). spot (Back i) (answer k x.expanded)) (sym (neutral_after x.tally))
 
-  pub leaf_crosses : (p i : ℕ) (C : Box) (c : Content K) (x : Answer K) → Laid p (leaf_at i C c) → q.misses C ≡ false → q.held C ≡ false → Passes (leaf_at i C c) x
+  pub leaf_crosses : (p : Link) (i : ℕ) (C : Box) (c : Content K) (x : Answer K) → Laid p (leaf_at i C c) → q.misses C ≡ false → q.held C ≡ false → Passes (leaf_at i C c) x
   leaf_crosses p i C c x h em ed = at_once (leaf_at i C c) x _ (visits.leaves x C c [] em ed) (λ n. lands p (leaf_at i C c) x false false h em ed n ∙ ap (go n) (leaf_takes p i C c x))
 
   -- a node with two children, of either kind
@@ -132,26 +129,26 @@ module _ {K : Type 0} (join : K → K → K) (e : K) (q : Tests) (laws : Joins j
   fork_after shrinks C g u v x em ed = visits.shrinks x C g u v [] em ed
   fork_after splits C g u v x em ed = visits.splits x C g u v [] em ed
 
-  fork_opens : (p : ℕ) (k : NodeKind) (i : ℕ) (r : Rank) (C : Box) (g : Option Box) (a b : PlacedNodes K) (x : Answer K) (v : K)
+  fork_opens : (p : Link) (k : NodeKind) (i : ℕ) (r : Rank) (C : Box) (g : Option Box) (a b : PlacedNodes K) (x : Answer K) (v : K)
       → arrived join i (record_of p (node_at k i r C g a b)) v (tallied x) (crossed q (record_of p (node_at k i r C g a b))) ≡ spot (Down (place_of a)) (answer x.tally (suc x.expanded))
   fork_opens p shrinks i r C g a b x v = rw add-one
   fork_opens p splits i r C g a b x v = rw add-one
 
-  first_laid : (p : ℕ) (k : NodeKind) (i : ℕ) (r : Rank) (C : Box) (g : Option Box) (a b : PlacedNodes K) → Laid p (node_at k i r C g a b) → Laid i a
-  first_laid p k i r C g a b h = record { laid = h.laid.1; totals = h.totals.1; once = λ j. let o = h.once j in omega arith; low = λ j past. let o = h.low j past in omega arith }
+  first_laid : (p : Link) (k : NodeKind) (i : ℕ) (r : Rank) (C : Box) (g : Option Box) (a b : PlacedNodes K) → Laid p (node_at k i r C g a b) → Laid (Some i) a
+  first_laid p k i r C g a b h = record { laid = h.laid.1; totals = h.totals.1; once = λ j. let o = h.once j in omega arith }
 
-  second_laid : (p : ℕ) (k : NodeKind) (i : ℕ) (r : Rank) (C : Box) (g : Option Box) (a b : PlacedNodes K) → Laid p (node_at k i r C g a b) → Laid i b
-  second_laid p k i r C g a b h = record { laid = h.laid.2; totals = h.totals.2; once = λ j. let o = h.once j in omega arith; low = λ j past. let o = h.low j past in omega arith }
+  second_laid : (p : Link) (k : NodeKind) (i : ℕ) (r : Rank) (C : Box) (g : Option Box) (a b : PlacedNodes K) → Laid p (node_at k i r C g a b) → Laid (Some i) b
+  second_laid p k i r C g a b h = record { laid = h.laid.2; totals = h.totals.2; once = λ j. let o = h.once j in omega arith }
 
   -- both children lie at places of their own
-  apart : (p : ℕ) (k : NodeKind) (i : ℕ) (r : Rank) (C : Box) (g : Option Box) (a b : PlacedNodes K) → Laid p (node_at k i r C g a b) → place_of a ≢ place_of b
+  apart : (p : Link) (k : NodeKind) (i : ℕ) (r : Rank) (C : Box) (g : Option Box) (a b : PlacedNodes K) → Laid p (node_at k i r C g a b) → place_of a ≢ place_of b
   apart p k i r C g a b h =
       let o = h.once (place_of a) in
       let u = root_occurs a in
       let v = root_le b (place_of a) in
       differ (place_of a) (place_of b) (omega arith)
 
-  pub fork_crosses : (p : ℕ) (k : NodeKind) (i : ℕ) (r : Rank) (C : Box) (g : Option Box) (a b : PlacedNodes K) (x : Answer K) → Laid p (node_at k i r C g a b)
+  pub fork_crosses : (p : Link) (k : NodeKind) (i : ℕ) (r : Rank) (C : Box) (g : Option Box) (a b : PlacedNodes K) (x : Answer K) → Laid p (node_at k i r C g a b)
       → q.misses (outer (unplaced (node_at k i r C g a b))) ≡ false → q.held (outer (unplaced (node_at k i r C g a b))) ≡ false → Passes a (answer x.tally (suc x.expanded)) → Passes b (after (answer x.tally (suc x.expanded)) (unplaced a))
       → Passes (node_at k i r C g a b) x
   fork_crosses p k i r C g a b x h em ed pa pb =
@@ -173,15 +170,15 @@ module _ {K : Type 0} (join : K → K → K) (e : K) (q : Tests) (laws : Joins j
               lands p t x false false h em ed (pa.turns + suc (pb.turns + suc n)),
               fork_opens p k i r C g a b x (tally_of join e (unplaced t)),
               pa.run (suc (pb.turns + suc n)),
-              to_second (pb.turns + suc n) (place_of a) i (place_of b) x2 (far p t h) (reads_parent i a ha) (ap (λ (v : Record). v.first) here) (ap (λ (v : Record). v.second) here),
+              to_second (pb.turns + suc n) (place_of a) i (place_of b) x2 (reads_parent (Some i) a ha) (ap (λ (v : Record). v.first) here) (ap (λ (v : Record). v.second) here),
               pb.run (suc n),
-              to_parent n (place_of b) i x3 (far p t h) (reads_parent i b hb) (λ is. apart p k i r C g a b h (sym (ap (λ (v : Record). v.first) here) ∙ is)),
+              to_parent n (place_of b) i x3 (reads_parent (Some i) b hb) (λ is. apart p k i r C g a b h (sym (ap (λ (v : Record). v.first) here) ∙ is)),
             )
             (ap (λ (y : Answer K). go n (spot (Back i) y)) (sym (fork_after k C g (unplaced a) (unplaced b) x em ed)));
       }
 
   -- a tree is passed over where it is if its box crosses
-  if_crossed : (p : ℕ) (t : PlacedNodes K) (x : Answer K) → Laid p t → (q.misses (outer (unplaced t)) ≡ false → q.held (outer (unplaced t)) ≡ false → Passes t x) → Passes t x
+  if_crossed : (p : Link) (t : PlacedNodes K) (x : Answer K) → Laid p t → (q.misses (outer (unplaced t)) ≡ false → q.held (outer (unplaced t)) ≡ false → Passes t x) → Passes t x
   if_crossed p t x h crosses =
       elim (cases_Bool (q.misses (outer (unplaced t)))) [
         | inl em ↦ missed p t x h em
@@ -189,19 +186,19 @@ module _ {K : Type 0} (join : K → K → K) (e : K) (q : Tests) (laws : Joins j
       ]
 
   -- every tree that lies in the tables is passed over
-  pub passes : (p : ℕ) (t : PlacedNodes K) (x : Answer K) → Laid p t → Passes t x
+  pub passes : (p : Link) (t : PlacedNodes K) (x : Answer K) → Laid p t → Passes t x
   passes p (leaf_at i C c) x h = if_crossed p (leaf_at i C c) x h (leaf_crosses p i C c x h)
   passes p (node_at k i r C g a b) x h =
-      let pa = passes i a (answer x.tally (suc x.expanded)) (first_laid p k i r C g a b h) in
-      let pb = passes i b (after (answer x.tally (suc x.expanded)) (unplaced a)) (second_laid p k i r C g a b h) in
+      let pa = passes (Some i) a (answer x.tally (suc x.expanded)) (first_laid p k i r C g a b h) in
+      let pb = passes (Some i) b (after (answer x.tally (suc x.expanded)) (unplaced a)) (second_laid p k i r C g a b h) in
       if_crossed p (node_at k i r C g a b) x h (λ em ed. fork_crosses p k i r C g a b x h em ed pa pb)
 
   split_turns : (m n : ℕ) → m < n → (j : ℕ) × (n ≡ m + suc j)
   split_turns m n less = (n - suc m, omega arith)
 
   -- the whole walk, in two turns to a node
-  pub whole_walk : (t : PlacedNodes K) (n : ℕ) → Laid 65535 t → 2 * nodes (unplaced t) ≤ n → go n (spot (Down (place_of t)) (answer e 0)) ≡ tallied (walk join e q (unplaced t))
+  pub whole_walk : (t : PlacedNodes K) (n : ℕ) → Laid None t → 2 * nodes (unplaced t) ≤ n → go n (spot (Down (place_of t)) (answer e 0)) ≡ tallied (walk join e q (unplaced t))
   whole_walk t n h enough =
-      let w = passes 65535 t (answer e 0) h in
+      let w = passes None t (answer e 0) h in
       let z = split_turns w.turns n (let f = w.few in omega arith) in
-      rw (z.1, w.run (suc z.0), to_end z.0 (place_of t) (after (answer e 0) (unplaced t)) (reads_parent 65535 t h)) (ap tallied (visits.start (unplaced t)))
+      rw (z.1, w.run (suc z.0), to_end z.0 (place_of t) (after (answer e 0) (unplaced t)) (reads_parent None t h)) (ap tallied (visits.start (unplaced t)))

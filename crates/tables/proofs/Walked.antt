@@ -17,7 +17,7 @@ use Rattle.tables.proofs.Finds.{none_or_some, none_of, held, held_tree, held_lai
 use Rattle.tables.proofs.Rolls.{ranked_roll}
 use Rattle.tables.proofs.Sights.{numbered_agree}
 use Rattle.tables.proofs.Runs.{stops}
-use Rattle.tables.proofs.Turns.{Laid, far, whole_walk}
+use Rattle.tables.proofs.Turns.{Laid, whole_walk}
 
 -- what a walk has found
 abbrev pub found : {K : Type 0} → Tallied K → Answer K
@@ -36,7 +36,7 @@ module _ {K : Type 0} (join : K → K → K) (e : K) (laws : Joins join e) (s : 
     found_held root far =
         let t : PlacedPairs K = held 0 join e s rs st root far in
         let lain : LiesTallied join e s.records s.tallies t = held_lain 0 join e s rs st root far in
-        let laid : Laid join e q laws s.records s.tallies 65535 (nodes_of t) = record { laid = lain.kept.laid; totals = lain.totals; once = lain.kept.once; low = lain.kept.low } in
+        let laid : Laid join e q laws s.records s.tallies None (nodes_of t) = record { laid = lain.kept.laid; totals = lain.totals; once = lain.kept.once } in
         let few : 2 * nodes (tree_in t) ≤ s.places * 2 = (let f = held_few 0 join e s rs st root far in omega arith) in
         rw (far, held_top 0 join e s rs st root far, whole_walk join e q laws s.records s.tallies (nodes_of t) (s.places * 2) laid few)
         (ap (map_walk join e q) (sym (held_tree 0 join e s rs st root far)))

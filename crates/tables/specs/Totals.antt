@@ -2,9 +2,11 @@
 --   Has, Totals                the entry at a place, and every entry of a tree
 --   renewed, climbed, mended   entries made anew
 --   Tables, tables, raised     both tables after the steps of a rise
-use Rattle.std.specs.Prelude.{◌≡◌, ℕ, zero, suc, ◌<◌, cond, List, length, ◌==◌, slice_index_or, slice_set, Option, None, Some}
+use Rattle.std.specs.Prelude.{◌≡◌, ℕ, zero, suc, ◌<◌, cond, List, length, slice_index_or, slice_set, None, Some}
+use Rattle.std.specs.Option.{is_none}
 use Rattle.records.specs.declared.record.Record.{Record}
 use Rattle.quadtreap.specs.Walk.{tally_of}
+use Rattle.records.specs.Links.{Link}
 use Rattle.records.specs.PlacedNodes.{PlacedNodes, leaf_at, node_at, unplaced}
 use Rattle.records.specs.Writes.{at, Rise, settled_in}
 
@@ -22,14 +24,14 @@ Totals join e ts (node_at k p r C i a b) = Has ts p (tally_of join e (unplaced (
 abbrev pub renewed : {K : Type 0} → (K → K → K) → K → List K → ℕ → ℕ → ℕ → List K
 renewed join e ts i x y = slice_set ts i (join (slice_index_or ts x e) (slice_index_or ts y e))
 
--- The entries from the node at i up to the root are renewed, at most n of them.
-abbrev pub climbed : {K : Type 0} → (K → K → K) → K → List Record → ℕ → ℕ → List K → List K
+-- The entries from the node at i, if there is one, up to the root are renewed, at most n of them.
+abbrev pub climbed : {K : Type 0} → (K → K → K) → K → List Record → ℕ → Link → List K → List K
 climbed join e recs zero i ts = ts
-climbed join e recs (suc n) i ts =
-    cond (i == 65535) ts (climbed join e recs n (at recs i).parent (renewed join e ts i (at recs i).first (at recs i).second))
+climbed join e recs (suc n) None ts = ts
+climbed join e recs (suc n) (Some i) ts = climbed join e recs n (at recs i).parent (renewed join e ts i (at recs i).first (at recs i).second)
 
 -- The two entries of the pair at x are renewed, if there is a pair.
-abbrev pub mended : {K : Type 0} → (K → K → K) → K → List Record → Option ℕ → List K → List K
+abbrev pub mended : {K : Type 0} → (K → K → K) → K → List Record → Link → List K → List K
 mended join e recs None ts = ts
 mended join e recs (Some x) ts =
     let rx : Record = at recs x in
@@ -52,4 +54,4 @@ abbrev pub raised : {K : Type 0} → (K → K → K) → K → ℕ → List Reco
 raised join e zero recs ts s = tables recs ts s
 raised join e (suc n) recs ts s =
     let v : Rise = settled_in recs s in
-    cond ((at recs s).parent == 65535) (tables recs ts s) (raised join e n v.table (mended join e v.table (Some v.top) (mended join e v.table v.low ts)) v.top)
+    cond (is_none (at recs s).parent) (tables recs ts s) (raised join e n v.table (mended join e v.table (Some v.top) (mended join e v.table v.low ts)) v.top)

@@ -5,7 +5,7 @@
 --   returned                      where the walk goes from a node that it is done with
 --   turned                        one turn of a walk
 --   first_position, starts, ran   the turns of a walk from its start
-use Rattle.std.specs.Prelude.{ℕ, zero, suc, ◌+◌, min, cond, List, Some, None, Option as Maybe, ◌==◌, slice_index_or}
+use Rattle.std.specs.Prelude.{ℕ, zero, suc, ◌+◌, min, cond, List, Some, None, ◌==◌, slice_index_or}
 use Rattle.records.specs.declared.record.Record.{Record}
 use Rattle.tables.specs.declared.walk.Sight.{Sight}
 use Rattle.tables.specs.declared.walk.Sight.TheVariants.{Misses, Held, Crosses}
@@ -17,7 +17,9 @@ use Rattle.place.specs.Codes.{motor_of, root_of}
 use Rattle.place.specs.Boxes.{cut, in_box}
 use Rattle.crossing.specs.Regions.{Places, misses, held}
 use Rattle.quadtreap.specs.Walk.{Tests}
+use Rattle.records.specs.Links.{Link}
 use Rattle.records.specs.Kinds.{is_reading, is_box}
+use Rattle.records.specs.Links.{Link}
 use Rattle.records.specs.Writes.{at, box_of}
 
 -- The tests of a shape, where the two numbers of a box are any: a depth above 32 counts as 32, and the bits below the depth as zeros.
@@ -43,9 +45,10 @@ arrived join i r k x Misses = record { position = Back i; found = x }
 arrived join i r k x Held = record { position = Back i; found = record { tally = join x.tally k; expanded = x.expanded } }
 arrived join i r k x Crosses = record { position = Down r.first; found = record { tally = x.tally; expanded = x.expanded + 1 } }
 
--- Where the walk goes from the node at i, which it is done with and whose parent is at p: the second child follows the first, the parent follows the second, and where 65535 is the parent the walk is finished.
-abbrev pub returned : List Record → ℕ → ℕ → Position
-returned recs p i = cond (p == 65535) Finished (cond ((at recs p).first == i) (Down (at recs p).second) (Back p))
+-- Where the walk goes from the node at i, which it is done with and whose parent is at p: the second child follows the first, the parent follows the second, and where there is no parent the walk is finished.
+abbrev pub returned : List Record → Link → ℕ → Position
+returned recs None i = Finished
+returned recs (Some p) i = cond ((at recs p).first == i) (Down (at recs p).second) (Back p)
 
 -- One turn of a walk that has found x.
 abbrev pub turned : {K : Type 0} → (K → K → K) → K → Tests → List Record → List K → Tallied K → Position → Spot K
@@ -54,12 +57,12 @@ turned join e q recs ts x (Back i) = record { position = returned recs (at recs 
 turned join e q recs ts x Finished = record { position = Finished; found = x }
 
 -- Where a walk starts: it comes down to the root, and is finished at once where there is none.
-abbrev pub first_position : Maybe ℕ → Position
+abbrev pub first_position : Link → Position
 first_position None = Finished
 first_position (Some root) = Down root
 
 -- A walk starts with nothing tallied.
-abbrev pub starts : {K : Type 0} → Maybe ℕ → K → Spot K
+abbrev pub starts : {K : Type 0} → Link → K → Spot K
 starts root e = record { position = first_position root; found = record { tally = e; expanded = 0 } }
 
 -- What a walk has found after n turns.

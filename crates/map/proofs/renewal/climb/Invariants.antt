@@ -5,5 +5,5 @@ use Rattle.tables.specs.Totals.{climbed}
 -- what is left of the run is the run from the start
 abbrev pub invariant-loop : goal.invariant-loop
 invariant-loop g l =
-    climbed g.K.Tally.joined g.K.Tally.neutral l.initial.records (l.places - l.counter) l.i l.tallies
-    ≡ climbed g.K.Tally.joined g.K.Tally.neutral l.initial.records l.places l.from l.initial.tallies
+    climbed g.K.Tally.joined g.K.Tally.neutral l.initial.records (l.places - l.counter) l.at l.tallies
+    ≡ climbed g.K.Tally.joined g.K.Tally.neutral l.initial.records l.places l.fn.from l.initial.tallies
