@@ -33,3 +33,11 @@ module _ {n len k : ℕ} {bs : List ℕ} (more : List ℕ) (room : len + length 
         count = count;
         text = ap (λ x. take len bs ++ (more ++ x)) left ∙ sym (append_assoc (take len bs) more _);
       }
+
+-- A piece and what is written behind it are written one after the other.
+pub then_more : (u : List ℕ) {v w x a : List ℕ} (b : List ℕ) → v ≡ u ++ x → x ≡ a → w ≡ v ++ b → w ≡ u ++ (a ++ b)
+then_more u {a = a} b e is f = f ∙ ap (λ y. y ++ b) (e ∙ ap (λ y. u ++ y) is) ∙ append_assoc u a b
+
+-- A last piece is written.
+pub then_last : (v : List ℕ) {w x b : List ℕ} → w ≡ v ++ x → x ≡ b → w ≡ v ++ b
+then_last v e is = e ∙ ap (λ y. v ++ y) is

@@ -2,7 +2,6 @@
 pub mod Yielding
 pub mod NumberLaws
 pub mod FieldLaws
-pub mod TextLaws
 pub mod LineLaws
 pub mod JournalLaws
 pub mod SameTexts
