@@ -1,7 +1,7 @@
 -- What a map writes when a reading is struck.
 --   given, four_given               the records after places are given back
 --   given_state, four_given_state   the map after places are given back
---   root_above                      the root, found by the parents
+--   up_or, root_above               the root, found by the parents
 --   struck_state, emptied_state     the map without one of several readings, and without its last
 use Rattle.std.specs.Prelude.{ℕ, zero, suc, ◌-◌, List, slice_set, None, Some}
 use Rattle.records.specs.declared.record.Record.{Record}
