@@ -34,16 +34,6 @@ module _ (recs : List Record) where
       ap (λ (m : ℕ). suc (max m (height_in n recs (at recs i).second))) (ap (height_in n recs) ea ∙ ha)
       ∙ ap (λ (m : ℕ). suc (max x m)) (ap (height_in n recs) eb ∙ hb)
 
-  -- what a turn of the recursion reads in r, and is told of both children
-  pub told_leaf : (n i : ℕ) (r : Record) → r ≡ at recs i → is_leaf r.kind ≡ true → 0 ≡ height_in n recs i
-  told_leaf n i r is low = sym (at_leaf n recs i (subst (λ (v : Record). is_leaf v.kind ≡ true) is low))
-
-  pub told_node : (n i : ℕ) (r : Record) (a b : ℕ) → r ≡ at recs i → 0 < n → is_leaf r.kind ≡ false → a ≡ height_in (n - 1) recs r.first → b ≡ height_in (n - 1) recs r.second
-      → suc (max a b) ≡ height_in n recs i
-  told_node n i r a b is some high ha hb =
-      sym (at_node n recs i some (subst (λ (v : Record). is_leaf v.kind ≡ false) is high)
-      ∙ over_both (n - 1) i r.first r.second a b (ap (λ (v : Record). v.first) (sym is)) (ap (λ (v : Record). v.second) (sym is)) (sym ha) (sym hb))
-
   pub of_nodes_of : {K : Type 0} (t : PlacedNodes K) (p : Link) (n : ℕ) → NodesRecorded recs p t → nodes (unplaced t) ≤ n → height_in n recs (place_of t) ≡ height (unplaced t)
   of_nodes_of (leaf_at q C c) p n h few = at_leaf n recs q (subst (λ (r : Record). is_leaf r.kind ≡ true) (sym h.reads) (leaf_low c))
   of_nodes_of (node_at shrinks q r C g a b) p n h few =

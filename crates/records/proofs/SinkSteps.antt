@@ -1,6 +1,5 @@
 -- The ways of a step down, from what it reads.
-use Rattle.std.proofs.Common.{◌≡◌, ℕ, zero, suc, ◌<◌, ◌≤◌, Bool, true, cond, eqb, List, sym, refl, ap, ◌∙◌, arith}
-use Rattle.std.proofs.lemmas.Bool.{eq-eqb}
+use Rattle.std.proofs.Common.{◌≡◌, ℕ, zero, suc, ◌<◌, ◌≤◌, Bool, cond, eqb, List, sym, refl, ap, ◌∙◌, arith}
 use Rattle.records.specs.declared.record.Record.{Record}
 use Rattle.records.specs.declared.places.FourPlaces.{FourPlaces}
 use Rattle.records.specs.declared.places.Sinking.TheVariants.{On, Done, Lost}
@@ -13,11 +12,6 @@ pub reads : (t : List Record) (s k : ℕ) (rs rw : Record) → at t s ≡ rs →
 reads t s k rs rw is is' =
     ap (λ (u : Record). chosen t s k (eqb k (at t (at t u.first).second).rank.code) (no_inner u) (eqb k (at t (at t u.first).first).rank.code)) is
     ∙ ap (λ (v : Record). chosen t s k (eqb k (at t v.second).rank.code) (no_inner rs) (eqb k (at t v.first).rank.code)) is'
-
-pub pair_sinks_right : (t : List Record) (s k : ℕ) (rs rw rb : Record) → rs ≡ at t s → rw ≡ at t rs.first → rb ≡ at t rw.second → k ≡ rb.rank.code → sunk_pair t s k ≡ sunk_right t s
-pair_sinks_right t s k rs rw rb is is' is'' e =
-    let yes' : eqb k (at t rw.second).rank.code ≡ true = eq-eqb k (at t rw.second).rank.code (e ∙ ap (λ (v : Record). v.rank.code) is'') in
-    reads t s k rs rw (sym is) (sym is') ∙ ap (λ b. chosen t s k b (no_inner rs) (eqb k (at t rw.first).rank.code)) yes'
 
 -- one run of the loop
 pub run_ends : (n : ℕ) (t : List Record) (s k : ℕ) → n ≤ 0 → struck_in n t s k ≡ sinks t (On s)

@@ -1,12 +1,12 @@
 -- The free places: those never used, and the chain of those given back.
---   next, left_of, left_after                 the next free place, and the free places after it is taken
---   four_taken, four_left                     the same of four places
---   linked, given_back                        the table and the free places after a place is given back
---   four_linked, four_given                   the same of four places
---   among, unused, free_at                    how often a place is free
---   Chain, FreeIn                             the free places of a table
---   Opens, TakesOne, TakesFour                what it is to take a free place
---   GivesOne, GivesFour                       what it is to give a place back
+--   next, left_of, left_after    the next free place, and the free places after it is taken
+--   four_taken, four_left        the same of four places
+--   linked, given_back           the table and the free places after a place is given back
+--   four_linked, four_given      the same of four places
+--   among, unused, free_at       how often a place is free
+--   Chain, FreeIn                the free places of a table
+--   Opens, TakesOne, TakesFour   what it is to take a free place
+--   GivesOne, GivesFour          what it is to give a place back
 use Rattle.std.specs.Prelude.{◌≡◌, ℕ, suc, ◌+◌, ◌<◌, ◌≤◌, min, cond, List, [], ◌∷◌, length, nat_le, slice_set, None, Some}
 use Rattle.std.specs.Option.{unwrap_or}
 use Rattle.records.specs.declared.record.Record.{Record}

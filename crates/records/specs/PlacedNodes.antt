@@ -1,12 +1,12 @@
 -- A tree whose nodes have places in a table of records, and what it is for it to lie there.
---   PlacedNodes, pair_at, unplaced, place_of   a tree of nodes with their places
---   one, occurs                                how often a place is a node's
---   kind_of, leaf_kind, leaf_rank, carried     the kind and the rank of a node
---   numbers_of, inner_numbers, in_record, record_of the record of a node
---   Lies, NodesRecorded, LiesIn                the tree lies in the table
---   Sized, Shallow                             the depths are those of boxes
---   NodeFrame, plug, above                     a node without one of its children
---   ordered_nodes                              a pair with its children in the order of their ranks
+--   PlacedNodes, pair_at, unplaced, place_of          a tree of nodes with their places
+--   one, occurs                                       how often a place is a node's
+--   kind_of, leaf_kind, leaf_rank, carried            the kind and the rank of a node
+--   numbers_of, inner_numbers, in_record, record_of   the record of a node
+--   Lies, NodesRecorded, LiesIn                       the tree lies in the table
+--   Sized, Shallow                                    the depths are those of boxes
+--   NodeFrame, plug, above                            a node without one of its children
+--   ordered_nodes                                     a pair with its children in the order of their ranks
 use Rattle.std.specs.Prelude.{◌≡◌, ℕ, ◌+◌, ◌<◌, ◌≤◌, cond, List, [], ◌∷◌, length, ◌==◌, slice_index_or, None, Some}
 use Rattle.std.proofs.Math.Option.{Option, none, some}
 use Rattle.records.specs.declared.record.BoxNumbers.{BoxNumbers}

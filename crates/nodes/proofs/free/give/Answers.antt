@@ -2,5 +2,5 @@ use Rattle.std.proofs.Common.{refl, rules}
 use Rattle.nodes.proofs.free.give.Goals as goal
 use Rattle.records.proofs.FreeLaws.{give_lifts}
 
-pub returns : goal.returns
-returns c = record { table = search rules; value = refl; stands = give_lifts c.args.records.now _ c.args.free _ c.args.place (search rules) refl }
+pub returns-clause-stands : goal.returns-clause-stands
+returns-clause-stands c = give_lifts c.args.records.now _ c.args.free _ c.args.place (search rules) refl
