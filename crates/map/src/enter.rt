@@ -6,9 +6,9 @@ ghost use Rattle.tables.specs.Calls.{enters};
 ghost use Rattle.tables.specs.Stands.{Keeps, started, grown};
 
 use crate::renewal::mend_and_rise;
-use crate::{Map, is_reading, store};
+use crate::{Map, is_reading};
 use quadtreap::Rank;
-use records::{FourPlaces, FreePlaces};
+use records::{FourPlaces, FreePlaces, write};
 use tables::MapFault;
 use tally::Tally;
 
@@ -44,7 +44,7 @@ impl<'a, K: Tally> Map<'a, K> {
     {
         let (i, left) = self.one_free();
         nodes::plant_first::<K>(self.records, i, Rank { priority, code });
-        store(self.tallies, i, extra);
+        write(self.tallies, i, extra);
         self.root = Some(i);
         self.live = 1;
         self.free = left;
@@ -59,8 +59,8 @@ impl<'a, K: Tally> Map<'a, K> {
         let (n, left) = self.four_free();
         let places = self.places;
         nodes::plant::<K>(self.records, i, Rank { priority, code }, n);
-        store(self.tallies, n.reading, extra);
-        store(self.tallies, n.outer, K::neutral_value());
+        write(self.tallies, n.reading, extra);
+        write(self.tallies, n.outer, K::neutral_value());
         let top = mend_and_rise(self.records, self.tallies, places, n.shrink);
         self.root = Some(top);
         self.live += 1;

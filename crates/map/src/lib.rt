@@ -1,7 +1,7 @@
 // A map over two lent tables.
 #![tactic(auto)]
 
-ghost use Rattle.std.specs.Prelude.{◌≡◌, ◌&&◌, nat_eq, min, [], slice_index_or, slice_set, MatchOption};
+ghost use Rattle.std.specs.Prelude.{◌≡◌, ◌&&◌, nat_eq, min, [], slice_index_or, MatchOption};
 ghost use Rattle.map.specs.Maps.{state_of, Lends};
 ghost use Rattle.records.specs.Kinds.{is_reading as is_reading_kind};
 ghost use Rattle.records.specs.Writes.{at};
@@ -20,7 +20,7 @@ mod tallies;
 
 use crate::renewal::climb;
 pub use comparison::{Compared, compare};
-use records::{FreePlaces, Kind, Record};
+use records::{FreePlaces, Kind, Record, read_or, write};
 pub use tables::{MapFault, Tallied};
 use tally::Tally;
 
@@ -28,21 +28,7 @@ use tally::Tally;
 pub(crate) fn entry<K: Tally>(tallies: &[K], i: u16) -> K
     ensures { result ≡ slice_index_or tallies.now i K.Tally.neutral }
 {
-    let i = i as usize;
-    if i >= tallies.len() {
-        return K::neutral_value();
-    }
-    tallies[i]
-}
-
-/// Writes a tally, if its place is in the table.
-pub(crate) fn store<K: Tally>(tallies: &mut [K], i: u16, k: K)
-    ensures { tallies.new ≡ slice_set tallies.old i k }
-{
-    let i = i as usize;
-    if i < tallies.len() {
-        tallies[i] = k;
-    }
+    read_or(tallies, i, K::neutral_value())
 }
 
 /// Whether a record is the leaf of the reading with a code.
@@ -131,7 +117,7 @@ impl<'a, K: Tally> Map<'a, K> {
         };
         let places = self.places;
         let old = self.entry(leaf);
-        store(self.tallies, leaf, old.join(extra));
+        write(self.tallies, leaf, old.join(extra));
         climb(self.records, self.tallies, places, r.parent);
         Ok(self.live)
     }

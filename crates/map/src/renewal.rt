@@ -2,8 +2,8 @@
 ghost use Rattle.std.specs.Prelude.{◌≡◌};
 ghost use Rattle.tables.specs.Totals.{renewed, climbed, mended, tables, raised};
 
-use crate::{entry, store};
-use records::{Record, read};
+use crate::entry;
+use records::{Record, read, write};
 use tally::Tally;
 
 /// The tally at `i` anew, from those of two children.
@@ -12,12 +12,17 @@ fn renew<K: Tally>(tallies: &mut [K], i: u16, x: u16, y: u16)
 {
     let a = entry(tallies, x);
     let b = entry(tallies, y);
-    store(tallies, i, a.join(b));
+    write(tallies, i, a.join(b));
 }
 
 /// Renews the tallies from the node at `from`, if there is one, up to the root. The records are only read; they come as `&mut`, since the
 /// check does not follow a field of a map that is lent as `&` beside one that is lent as `&mut`.
-pub(crate) fn climb<K: Tally>(records: &mut [Record], tallies: &mut [K], places: u16, from: Option<u16>)
+pub(crate) fn climb<K: Tally>(
+    records: &mut [Record],
+    tallies: &mut [K],
+    places: u16,
+    from: Option<u16>,
+)
     ensures run { tallies.new ≡ climbed K.Tally.joined K.Tally.neutral records.old places from tallies.old }
     ensures same { records.new ≡ records.old }
 {

@@ -6,8 +6,8 @@ use Rattle.tables.proofs.Climbs.{stops, turns}
 pub returns-in_default-clause-run : goal.returns-in_default-clause-run
 returns-in_default-clause-run g c =
     sym (
-      ap (λ m. climbed g.K.Tally.joined g.K.Tally.neutral c.args.records.now (c.args.places - c.loop.counter) m c.loop.tallies) c.in_default.is
-      ∙ stops g.K.Tally.joined g.K.Tally.neutral c.args.records.now (c.args.places - c.loop.counter) c.loop.tallies
+    ap (λ m. climbed g.K.Tally.joined g.K.Tally.neutral c.args.records.now (c.args.places - c.loop.counter) m c.loop.tallies) c.in_default.is
+    ∙ stops g.K.Tally.joined g.K.Tally.neutral c.args.records.now (c.args.places - c.loop.counter) c.loop.tallies
     )
     ∙ c.loop.invariant
 
