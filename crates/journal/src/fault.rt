@@ -14,6 +14,7 @@ pub enum FormatFault {
 
 impl FormatFault {
     /// The number under which the fault is reported.
+    /// It is a call of its own and no `From`, so that no fault becomes a number unseen.
     pub fn number(self) -> u8
         ensures value { result ≡ fault_number self }
     {

@@ -1,7 +1,8 @@
 //! What a printed line says of a record.
 
 /// `Ok` tells how many readings are live after the call, and `Tally` what a walk found.
-/// `Refused` and `Stopped` tell the number of a fault; after a stop no record is read.
+/// `Refused` and `Stopped` tell the number of a fault; after a stop no record is read. The number and not the fault, since
+/// this crate knows the bytes alone, and the line has no more.
 #[derive(Clone, Copy)]
 pub enum Report {
     Ok {

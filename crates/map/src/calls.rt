@@ -7,6 +7,7 @@ ghost use Rattle.tables.specs.Heights.{LiveCount};
 
 use crate::Map;
 use place::Place;
+use quadtreap::Rank;
 use reading::WholeReading;
 use tables::MapFault;
 use tally::Tally;
@@ -23,7 +24,7 @@ impl<'a, K: Tally> Map<'a, K> {
             root: counts.root,
         };
         let code = place.code();
-        self.enter_code(code, priority, tally)
+        self.enter_ranked(Rank { priority, code }, tally)
     }
 
     /// Joins a tally to that of the reading at a place.

@@ -38,12 +38,12 @@ impl<'a, K: Tally> Map<'a, K> {
     }
 
     /// Makes the first reading the tree, at one free place.
-    fn start(&mut self, code: u32, priority: u32, extra: K)
-        ensures run { state_of self.new ≡ started (state_of self.old) code priority extra }
+    fn start(&mut self, rank: Rank, extra: K)
+        ensures run { state_of self.new ≡ started (state_of self.old) rank.code rank.priority extra }
         ensures lends { Lends self.old self.new }
     {
         let (i, left) = self.one_free();
-        nodes::plant_first::<K>(self.records, i, Rank { priority, code });
+        nodes::plant_first::<K>(self.records, i, rank);
         write(self.tallies, i, extra);
         self.root = Some(i);
         self.live = 1;
@@ -51,14 +51,14 @@ impl<'a, K: Tally> Map<'a, K> {
     }
 
     /// Makes the leaf at `i` a pair over what it held and a new reading, at four free places, and settles each pair up to the root.
-    fn grow(&mut self, i: u16, code: u32, priority: u32, extra: K)
+    fn grow(&mut self, i: u16, rank: Rank, extra: K)
         requires { self.old.live + 1 < 2 ^ 16 }
-        ensures run { state_of self.new ≡ grown K.Tally.joined K.Tally.neutral (state_of self.old) i code priority extra }
+        ensures run { state_of self.new ≡ grown K.Tally.joined K.Tally.neutral (state_of self.old) i rank.code rank.priority extra }
         ensures lends { Lends self.old self.new }
     {
         let (n, left) = self.four_free();
         let places = self.places;
-        nodes::plant::<K>(self.records, i, Rank { priority, code }, n);
+        nodes::plant::<K>(self.records, i, rank, n);
         write(self.tallies, n.reading, extra);
         write(self.tallies, n.outer, K::neutral_value());
         let top = mend_and_rise(self.records, self.tallies, places, n.shrink);
@@ -67,28 +67,28 @@ impl<'a, K: Tally> Map<'a, K> {
         self.free = left;
     }
 
-    /// Puts the reading with a code on the roll, with a priority and a tally.
+    /// Puts the reading with a rank on the roll, with a tally.
     /// It does not ask `find`, so that it goes down once: a new reading needs the leaf that holds none with its code.
-    pub(crate) fn enter_code(&mut self, code: u32, priority: u32, extra: K) -> Result<u16, MapFault>
-        ensures keeps { Keeps K.Tally.joined K.Tally.neutral (state_of self.old) (state_of self.new) (enters code priority extra) result }
+    pub(crate) fn enter_ranked(&mut self, rank: Rank, extra: K) -> Result<u16, MapFault>
+        ensures keeps { Keeps K.Tally.joined K.Tally.neutral (state_of self.old) (state_of self.new) (enters rank.code rank.priority extra) result }
         ensures lends { Lends self.old self.new }
     {
         let Some(root) = self.root else {
             if self.is_full() {
                 return Err(MapFault::Full);
             }
-            self.start(code, priority, extra);
+            self.start(rank, extra);
             return Ok(1);
         };
-        let leaf = self.descend(root, code);
+        let leaf = self.descend(root, rank.code);
         let record = self.node(leaf);
-        if is_reading(record, code) {
+        if is_reading(record, rank.code) {
             return Err(MapFault::Taken);
         }
         if self.is_full() {
             return Err(MapFault::Full);
         }
-        self.grow(leaf, code, priority, extra);
+        self.grow(leaf, rank, extra);
         Ok(self.live)
     }
 }

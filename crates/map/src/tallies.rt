@@ -47,6 +47,7 @@ fn cross<S: Shape>(r: Record, shape: &S) -> Sight
 
 impl<'a, K: Tally> Map<'a, K> {
     /// The walk has come down to a node: passes it over, joins its tally, or goes down to its first child.
+    /// It asks that there is room for one more expanded node, since the count is exact and its bound is that of the turns.
     fn arrive<S: Shape>(&self, shape: &S, node: u16, found: Tallied<K>) -> Spot<K>
         requires { found.expanded + 1 < 2 ^ 32 }
         ensures value { result ≡ arrived K.Tally.joined node (at self.now.records.now node) (slice_index_or self.now.tallies.now node K.Tally.neutral) found (seen (numbered (S.Shape.inner shape.now) (S.Shape.outer shape.now)) (at self.now.records.now node)) }

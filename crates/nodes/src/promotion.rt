@@ -26,7 +26,7 @@ pub fn promote_left<K>(records: &mut [Record], x: u16)
     write(records, ry.second, ro.with_parent(Some(rx.first)));
 }
 
-/// The outer child of the pair at `s` rises over it.
+/// The outer child of the pair at `s` rises over it. It is no twin of the call before, which moves other children.
 pub fn promote_outer<K>(records: &mut [Record], s: u16)
     ensures table { records.new ≡ promoted_outer records.old s }
     ensures stands { OuterRises K records.old records.new s }

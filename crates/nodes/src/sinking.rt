@@ -88,6 +88,7 @@ fn sink_right<K>(records: &mut [Record], s: u16) -> Sinking
 }
 
 /// A step down where the struck reading is the first of the left child, and there is no inner box.
+/// It is no twin of the step before: left and right change places where the struck reading would else be first.
 fn sink_left<K>(records: &mut [Record], s: u16) -> Sinking
     ensures table { records.new ≡ (sunk_left records.old s).table }
     ensures ends { result ≡ (sunk_left records.old s).ends }

@@ -29,6 +29,7 @@ impl Place {
     }
 
     /// The place that has a code.
+    /// A call with a name and no `From`, since a number alone does not say that it is a code.
     pub fn of_code(code: u32) -> Place
         ensures value { (result.motor ≡ motor_of code) × (result.root ≡ root_of code) }
         ensures code { code_of result.motor result.root ≡ code }

@@ -10,6 +10,7 @@ pub enum ReadingFault {
 
 impl ReadingFault {
     /// The number under which the fault is reported.
+    /// It is a call of its own and no `From`, so that no fault becomes a number unseen.
     pub fn number(self) -> u8
         ensures value { result ≡ number self }
     {

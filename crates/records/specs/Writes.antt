@@ -25,7 +25,7 @@ use Rattle.quadtreap.specs.declared.rank.Rank.{Rank}
 use Rattle.quadtreap.specs.Rank.{earlier}
 use Rattle.quadtreap.specs.Pairs.{unranked}
 use Rattle.records.specs.Links.{Link}
-use Rattle.records.specs.Kinds.{is_leaf, is_pair, is_split}
+use Rattle.records.specs.Kinds.{is_leaf, is_reading, is_pair, is_split}
 use Rattle.records.specs.PlacedNodes.{blank, numbers_of}
 
 -- The record at a place, blank past the end.
@@ -197,9 +197,11 @@ descended (suc n) t i k =
 abbrev pub half_numbers : Box → ℕ → BoxNumbers
 half_numbers e c = numbers_of (cut (min (suc e.depth) 32) c)
 
--- What a leaf holds, as a box: its inner box, or the place of its reading.
+-- What a leaf holds, as a box: the place of its reading, or its inner box.
 abbrev pub content_numbers : Record → BoxNumbers
-content_numbers r = unwrap_or r.inner (record { depth = 32; code = r.rank.code })
+content_numbers r =
+    let place : BoxNumbers = record { depth = 32; code = r.rank.code } in
+    cond (is_reading r.kind) place (unwrap_or r.inner place)
 
 -- The record of a leaf.
 abbrev pub leaf_record : Kind → BoxNumbers → Option BoxNumbers → Link → Rank → Record

@@ -111,6 +111,9 @@ impl Record {
         }
     }
 
+    // A call for each field that changes, and no struct update where it is used, so that several changes of a record
+    // stand in one chain.
+
     /// The record with another first child.
     pub fn with_first(self, first: u16) -> Record
         ensures value { result ≡ with_first self first }
@@ -161,13 +164,17 @@ impl Record {
         self.rank < other.rank
     }
 
-    /// What a leaf holds, as a box: its inner box, or the place of its reading.
+    /// What a leaf holds, as a box: the place of its reading, or its inner box.
     pub fn content(self) -> BoxNumbers
         ensures value { result ≡ content_numbers self }
     {
-        self.inner.unwrap_or(BoxNumbers {
+        let place = BoxNumbers {
             depth: 32,
             code: self.rank.code,
-        })
+        };
+        match self.kind {
+            Kind::Reading => place,
+            _ => self.inner.unwrap_or(place),
+        }
     }
 }

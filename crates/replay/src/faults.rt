@@ -43,6 +43,7 @@ impl From<MapFault> for StepFault {
 
 impl StepFault {
     /// The number under which the fault is reported.
+    /// It is a call of its own and no `From`, so that no fault becomes a number unseen.
     pub fn number(self) -> u8
         ensures value { result ≡ step_number self }
     {

@@ -85,6 +85,7 @@ impl Disc {
     {
         let radius = u64::from(self.inner_radius);
         let gap = u64::from(self.outer_radius) - radius;
+        // Up to 33 and not through 32, since the library has no lemma on the items of an inclusive range.
         (0..33).map(|depth| added_at(depth, radius, gap)).sum()
     }
 }

@@ -6,6 +6,7 @@ use crate::fault::MapFault;
 
 impl MapFault {
     /// The number by which the refusal is reported.
+    /// It is a call of its own and no `From`, so that no refusal becomes a number unseen.
     pub fn number(self) -> u8
         ensures value { result ≡ fault_number self }
     {

@@ -6,6 +6,7 @@ ghost use Rattle.tally.specs.SpansLemmas.{join_commutative, join_associative, em
 use crate::kind::Tally;
 
 /// Two times in either order, or none: the first is the lesser of the two and the last is the greater.
+/// An enum of its own and no `Option` of a pair, so that each case has its name wherever a span is made or read.
 #[derive(Clone, Copy, PartialEq, Eq, Debug)]
 pub enum Span {
     Empty,
@@ -13,12 +14,14 @@ pub enum Span {
 }
 
 impl Span {
+    /// The span of two times, in either order: two calls with names and no `From`, since a number alone does not say that it is a time.
     pub fn of(one: u32, other: u32) -> Span
         ensures value { result ≡ Times one other }
     {
         Span::Times(one, other)
     }
 
+    /// The span of one time.
     pub fn at(time: u32) -> Span
         ensures value { result ≡ Times time time }
     {

@@ -6,7 +6,8 @@ use super::Sum;
 use crate::kind::Tally;
 
 impl Sum {
-    /// A number of 64 bits is its own remainder.
+    /// A number of 64 bits is its own remainder, so that the sum is that of the number.
+    /// A call with a name and no `From`, since a number alone does not say that it is summed.
     #[tactic(auto, using(crate::specs::SumsLemmas::same_sum))]
     pub fn of(value: u64) -> Sum
         ensures value { result.value ≡ value }
