@@ -1,6 +1,7 @@
 //! The records of a journal.
 
-/// One record, by the call that it asks for. The fields stand in the order of their bytes.
+/// One record, by the call that it asks for. The fields stand in the order of their bytes, plain numbers all: what they
+/// make, a place or a shape or neither, is judged where the record is served.
 #[derive(Clone, Copy, PartialEq, Eq, Debug)]
 pub enum Entry {
     Enter {

@@ -4,7 +4,8 @@ ghost use Rattle.journal.specs.Padded.{Holds};
 
 use itoa::{Buffer, Integer};
 
-/// Bytes, zeros after them, and how many bytes stand before the zeros.
+/// Bytes, zeros after them, and how many bytes stand before the zeros. A line is promised as 96 bytes and its length, without
+/// a heap, and a record is made alike.
 #[derive(Clone, Copy)]
 pub struct Padded<const N: usize> {
     pub bytes: [u8; N],

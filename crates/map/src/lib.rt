@@ -45,6 +45,9 @@ fn common(a: usize, b: usize) -> u16
     a.min(b).min(65533) as u16
 }
 
+/// A map of readings in two tables that its caller lent it. They stay two slices, as they are lent: an inner call takes
+/// the one that it writes, or both. Each public call says in `lends` that they are those, since that speaks of the map
+/// before and after the call, which an invariant cannot.
 #[derive(Drop)]
 pub struct Map<'a, K> {
     pub(crate) records: &'a mut [Record],

@@ -13,7 +13,7 @@ use shape::Shape;
 use tables::{Position, Sight, Spot, Tallied};
 use tally::Tally;
 
-/// How a node lies to a shape. No other function asks what part of a node is tested.
+/// How a walk takes a node: by its outer box, and where that crosses by what `cross` says.
 #[tactic(auto, using(tables::proofs::Sights::seen_in))]
 fn look<S: Shape>(r: Record, shape: &S) -> Sight
     ensures value { result ≡ seen (numbered (S.Shape.inner shape.now) (S.Shape.outer shape.now)) r }
@@ -28,7 +28,7 @@ fn look<S: Shape>(r: Record, shape: &S) -> Sight
     cross(r, shape)
 }
 
-/// How a node whose box crosses a shape lies to it.
+/// How a walk takes a node whose box crosses the shape.
 fn cross<S: Shape>(r: Record, shape: &S) -> Sight
     ensures value { result ≡ crossed (numbered (S.Shape.inner shape.now) (S.Shape.outer shape.now)) r }
 {
@@ -90,7 +90,7 @@ impl<'a, K: Tally> Map<'a, K> {
         }
     }
 
-    /// A walk above the root, with nothing tallied.
+    /// A walk that has come down to the root, or is finished where there is none, with nothing tallied.
     fn first_spot(&self) -> Spot<K>
         ensures value { result ≡ starts self.now.root K.Tally.neutral }
     {

@@ -14,7 +14,8 @@ pub struct Rectangle {
 }
 
 impl Rectangle {
-    /// The rectangle with four ends, or none where a lowest end is above its highest.
+    /// The rectangle with four ends, or none where a lowest end is above its highest. Four numbers and no intervals, since
+    /// they may make none.
     pub fn new(
         lowest_motor: u16,
         highest_motor: u16,

@@ -7,7 +7,8 @@ pub struct Rank {
     pub code: u32,
 }
 
-/// The rank that stands for none.
+/// The rank that stands for none. No `Option`, since ranks are compared only where there is one, and each of those places
+/// would have to say what none is.
 pub const UNRANKED: Rank = Rank {
     priority: 0,
     code: 0,

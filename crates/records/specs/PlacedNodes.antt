@@ -1,13 +1,15 @@
 -- A tree whose nodes have places in a table of records, and what it is for it to lie there.
---   PlacedNodes, pair_at, unplaced, place_of          a tree of nodes with their places
+--   NodeKind, PlacedNodes, pair_at                    a tree of nodes with their places
+--   grown, unplaced, place_of                         the tree without places, and the place of its root
 --   one, occurs                                       how often a place is a node's
 --   kind_of, leaf_kind, leaf_rank, carried            the kind and the rank of a node
 --   numbers_of, inner_numbers, in_record, record_of   the record of a node
+--   blank                                             the record that is read past the end
 --   Lies, NodesRecorded, LiesIn                       the tree lies in the table
 --   Sized, Shallow                                    the depths are those of boxes
 --   NodeFrame, plug, above                            a node without one of its children
 --   ordered_nodes                                     a pair with its children in the order of their ranks
-use Rattle.std.specs.Prelude.{◌≡◌, ℕ, ◌+◌, ◌<◌, ◌≤◌, cond, List, [], ◌∷◌, length, ◌==◌, slice_index_or, None, Some}
+use Rattle.std.specs.Prelude.{◌≡◌, ℕ, ◌+◌, ◌<◌, ◌≤◌, cond, List, [], ◌∷◌, length, ◌==◌, slice_index_or, None, Some, Option as Maybe}
 use Rattle.std.proofs.Math.Option.{Option, none, some}
 use Rattle.records.specs.declared.record.BoxNumbers.{BoxNumbers}
 use Rattle.records.specs.declared.record.Record.{Record}
@@ -73,7 +75,7 @@ abbrev pub numbers_of : Box → BoxNumbers
 numbers_of B = record { depth = B.depth; code = B.code }
 
 -- The numbers that a record has of an inner box, or of none.
-abbrev pub inner_numbers : Option Box → Rattle.std.specs.Prelude.Option BoxNumbers
+abbrev pub inner_numbers : Option Box → Maybe BoxNumbers
 inner_numbers none = None
 inner_numbers (some I) = Some (numbers_of I)
 

@@ -13,7 +13,7 @@ use quadtreap::{Rank, UNRANKED};
 /// No node: the children that a leaf names.
 pub const NONE: u16 = 65535;
 
-/// The depth and the code of a box.
+/// The depth and the code of a box. No box value of crate place, since any two numbers may stand in a lent table.
 #[derive(Clone, Copy)]
 pub struct BoxNumbers {
     pub depth: u8,

@@ -13,10 +13,7 @@ use std::alloc::AllocError;
 pub fn numbered(record: u32, answer: Result<Report, StepFault>) -> Result<Report, JournalFault>
     ensures value { result ≡ with_number «record» answer }
 {
-    match answer {
-        Ok(report) => Ok(report),
-        Err(fault) => Err(JournalFault { record, fault }),
-    }
+    answer.map_err(|fault| JournalFault { record, fault })
 }
 
 impl JournalFault {

@@ -8,7 +8,7 @@ use crate::shapes::Shape;
 use place::{Interval, Place, Rectangle};
 
 impl Band {
-    /// The band with the ends of its rectangle and a margin.
+    /// The band with the ends of its rectangle and a margin. Plain numbers and no rectangle, since they may make none.
     pub fn new(
         lowest_motor: u16,
         highest_motor: u16,

@@ -1,34 +1,40 @@
 //! How what was found is printed.
+ghost use Rattle.std.specs.Prelude.{Some};
+ghost use Rattle.survey.specs.Printed.{accepted_text, box_text};
 
 use crate::sample::Accepted;
-use place::{Place, PlaceBox, Rectangle};
+use place::Rectangle;
 use std::fmt;
 
 impl fmt::Display for Accepted {
+    ghost output = { λ accepted. Some (accepted_text accepted) };
+
     fn fmt<W: fmt::Write>(&self, f: &mut fmt::Formatter<W>) -> fmt::Result {
-        let Place { motor, root } = self.place;
-        let code = self.code;
-        let lag = self.lag;
-        let delay = self.delay;
+        write!(f, "place {} {}", self.place.motor, self.place.root)?;
         write!(
             f,
-            "place {motor} {root} code {code} lag {lag} delay {delay}"
+            " code {} lag {} delay {}",
+            self.code, self.lag, self.delay
         )
     }
 }
 
-/// A box, to be printed with its depth and the ends of its rectangle.
+/// The depth of a box and the rectangle of its places, to be printed.
 #[derive(Clone, Copy)]
-pub struct Frame(pub PlaceBox);
+pub struct PrintedBox {
+    pub depth: u8,
+    pub places: Rectangle,
+}
 
-impl fmt::Display for Frame {
+impl fmt::Display for PrintedBox {
+    ghost output = { λ printed. Some (box_text printed) };
+
     fn fmt<W: fmt::Write>(&self, f: &mut fmt::Formatter<W>) -> fmt::Result {
-        let depth = self.0.depth;
-        let Rectangle { motors, roots } = self.0.rectangle();
+        let Rectangle { motors, roots } = self.places;
         write!(
             f,
-            "box depth {depth} motor {} to {}",
-            motors.lowest, motors.highest
+            "box depth {} motor {} to {}",
+            self.depth, motors.lowest, motors.highest
         )?;
         write!(f, " root {} to {}", roots.lowest, roots.highest)
     }

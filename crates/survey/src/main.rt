@@ -6,7 +6,7 @@ mod lines;
 mod sample;
 
 use enclosing::enclosing;
-use lines::Frame;
+use lines::PrintedBox;
 use sample::{Sample, sample_of, survey};
 
 /// The sample of a line of four words, if it is one.
@@ -45,7 +45,11 @@ fn run(rt: &HostRuntime) -> anyhow::Result<()> {
         }
     }
     match enclosing(&codes) {
-        Some(found) => println!(rt; "{}", Frame(found))?,
+        Some(found) => {
+            let depth = found.depth;
+            let places = found.rectangle();
+            println!(rt; "{}", PrintedBox { depth, places })?;
+        }
         None => println!(rt; "no reading accepted")?,
     }
     Ok(())

@@ -5,6 +5,7 @@ use place::Place;
 use reading::{HalfReading, ReadingFault};
 
 /// What the two sensors said: a motor count and a root count, each with its millisecond.
+/// No `Counts` of crate reading: those are the numbers of a whole reading, and a sample may make none.
 #[derive(Clone, Copy)]
 pub struct Sample {
     pub motor: u16,

@@ -3,11 +3,10 @@
 --   map_tree, root_of, in_tree   the tree of a map with the places of its nodes
 --   LiesTallied, Lies            a tree that lies in both tables
 --   Stands                       the map holds the readings of a list
---   Serves, Keeps                what a call promises after some calls, and after any calls
+--   refuses, Serves, Keeps       what a call promises after some calls, and after any calls
 --   grown_tables                 both tables after a reading is entered
 --   started, grown               the map after its first reading, and after one more
--- Maybe is the Option of the code, of numbers here; Option is that of the theory of trees.
-use Rattle.std.specs.Prelude.{◌≡◌, ℕ, ◌+◌, ◌<◌, ◌≤◌, min, Bool, true, false, List, ◌∷◌, length, Some, None, Option as Maybe, Ok, Err, slice_index_or, slice_set}
+use Rattle.std.specs.Prelude.{◌≡◌, ℕ, ◌+◌, ◌<◌, ◌≤◌, min, Bool, true, false, List, ◌∷◌, length, Some, None, Ok, Err, slice_index_or, slice_set}
 use Rattle.std.proofs.Math.Option.{Option, none, some}
 use Rattle.records.specs.declared.record.Record.{Record}
 use Rattle.records.specs.declared.kind.Kind.TheVariants.{Reading as ReadingKind}
@@ -16,6 +15,7 @@ use Rattle.records.specs.declared.places.FreePlaces.{FreePlaces}
 use Rattle.quadtreap.specs.Tree.{Reading, Tree, tree_of, map_nodes}
 use Rattle.quadtreap.specs.Rank.{Ranked, Valid}
 use Rattle.tables.specs.Calls.{Reply, Call, roll, reply}
+use Rattle.records.specs.Links.{Link}
 use Rattle.records.specs.PlacedNodes.{occurs, LiesIn}
 use Rattle.records.specs.Writes.{planted, first_planted}
 use Rattle.records.specs.PlacedPairs.{PlacedPairs, nodes_of, tree_in, top_place, RanksStand}
@@ -27,12 +27,12 @@ pub record State (K : Type 0) : Type 0 where
   pub records : List Record
   pub tallies : List K
   pub places : ℕ
-  pub root : Maybe ℕ
+  pub root : Link
   pub live : ℕ
   pub free : FreePlaces
 
 -- The state of these parts.
-abbrev pub state : {K : Type 0} → List Record → List K → ℕ → Maybe ℕ → ℕ → FreePlaces → State K
+abbrev pub state : {K : Type 0} → List Record → List K → ℕ → Link → ℕ → FreePlaces → State K
 state recs ts N root live free = record { records = recs; tallies = ts; places = N; root = root; live = live; free = free }
 
 -- The tree of a map without the places of its nodes; an empty map has none.
@@ -41,7 +41,7 @@ map_tree none = none
 map_tree (some t) = some (tree_in t)
 
 -- The place of the root; an empty map has none.
-abbrev pub root_of : {K : Type 0} → Option (PlacedPairs K) → Maybe ℕ
+abbrev pub root_of : {K : Type 0} → Option (PlacedPairs K) → Link
 root_of none = None
 root_of (some t) = Some (top_place t)
 

@@ -1,6 +1,6 @@
 -- The walk over the tables that tallies a shape.
 --   numbered                      the tests of a shape for any two numbers as the depth and the code of a box
---   crossed, seen                 how a node lies to a shape
+--   crossed, seen                 how a walk takes a node
 --   arrived                       what follows where the walk has come down to a node
 --   returned                      where the walk goes from a node that it is done with
 --   turned                        one turn of a walk
@@ -19,7 +19,6 @@ use Rattle.crossing.specs.Regions.{Places, misses, held}
 use Rattle.quadtreap.specs.Walk.{Tests}
 use Rattle.records.specs.Links.{Link}
 use Rattle.records.specs.Kinds.{is_reading, is_box}
-use Rattle.records.specs.Links.{Link}
 use Rattle.records.specs.Writes.{at, box_of}
 
 -- The tests of a shape, where the two numbers of a box are any: a depth above 32 counts as 32, and the bits below the depth as zeros.
@@ -31,11 +30,11 @@ numbered inner outer =
       has = λ c. inner (motor_of c) (root_of c);
     }
 
--- How a node with the record r lies to a shape where its box crosses: a reading is held if the inner set has its place and is missed if not, an inner box is missed, and any other node crosses.
+-- How a walk takes a node with the record r whose box crosses the shape: a reading is held if the inner set has its place and is missed if not, an inner box is missed, and any other node crosses.
 abbrev pub crossed : Tests → Record → Sight
 crossed q r = cond (is_reading r.kind) (cond (q.has r.rank.code) Held Misses) (cond (is_box r.kind) Misses Crosses)
 
--- How a node with the record r lies to a shape: its box is missed, or else held, or else crosses.
+-- How a walk takes a node with the record r: its box is missed, or else held, or else crosses.
 abbrev pub seen : Tests → Record → Sight
 seen q r = cond (q.misses (box_of r.outer)) Misses (cond (q.held (box_of r.outer)) Held (crossed q r))
 

@@ -1,6 +1,8 @@
 //! Where a walk over the tables is, and what it has found.
 
-/// How a node lies to a shape.
+/// How a walk takes a node: it is passed over, or taken whole, or gone into. A node whose box misses the shape is missed, and
+/// one whose box is held is held. Where the box crosses, a reading counts as held or as missed by its own place, an inner
+/// box as missed, and any other node crosses.
 #[derive(Clone, Copy, PartialEq, Eq, Debug)]
 pub enum Sight {
     Misses,
