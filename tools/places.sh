@@ -21,4 +21,5 @@ list '5 parameters that travel together' 'lowest(_motor|_root)?: u16, *(highest|
 list '6 a length beside a buffer, indices' 'len: usize|\.len\(\) [<=>]+ ?[0-9]|\[[0-9]\]' "$tests"
 list '7 switches on a step, tables of functions' 'fn\(|dyn |down: bool' "$tests"
 printf '== 8 proof files of functions\n'
-git ls-files 'crates/*/proofs/*Answers.antt' 'crates/*/proofs/*Invariants.antt' | wc -l
+if [ -n "$commit" ]; then git ls-tree -r --name-only "$commit"; else git ls-files; fi |
+    grep -cE '^crates/.*/proofs/.*(Answers|Invariants)\.antt$'

@@ -11,7 +11,7 @@ use shape::{Disc, Shape};
 use tables::Tallied;
 use tally::Tally;
 
-/// What two maps answer to the same shape.
+/// What two maps answer to the same shape: to the first question each its tally, to the second each its height.
 #[derive(Clone, Copy)]
 pub struct Compared<K> {
     pub first: Tallied<K>,

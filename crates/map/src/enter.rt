@@ -30,7 +30,7 @@ impl<'a, K: Tally> Map<'a, K> {
         (place, nodes::take(self.records, self.free))
     }
 
-    /// Four free places, and the free places once they are taken.
+    /// Four free places, and the free places once they are taken. By a shared reference, as the call before.
     fn four_free(&self) -> (FourPlaces, FreePlaces)
         ensures value { result ≡ (four_taken self.now.records.now self.now.free, four_left self.now.records.now self.now.free) }
     {

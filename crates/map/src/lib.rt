@@ -45,9 +45,10 @@ fn common(a: usize, b: usize) -> u16
     a.min(b).min(65533) as u16
 }
 
-/// A map of readings in two tables that its caller lent it. They stay two slices, as they are lent: an inner call takes
-/// the one that it writes, or both. Each public call says in `lends` that they are those, since that speaks of the map
-/// before and after the call, which an invariant cannot.
+/// A map of readings in two tables that its caller lent it. It takes no heap, so its nodes lie in the table of records and
+/// name one another by their places. The tables stay two slices, as they are lent: an inner call takes the one that it
+/// writes, or both. Each public call says in `lends` that they are those, and each question in `same` that nothing changed:
+/// both speak of the map before and after a call, which an invariant cannot.
 #[derive(Drop)]
 pub struct Map<'a, K> {
     pub(crate) records: &'a mut [Record],

@@ -11,7 +11,7 @@ pub(crate) fn numbers_of<const N: usize>(text: &str, largest: [u32; N]) -> Optio
 {
     let mut words = text.split(',');
     let mut numbers = [0; N];
-    // Written by index, since a proof knows nothing of what is written through an adapter of `iter_mut`.
+    // Written by index: with `iter_mut` and `zip` the proof did not close, at what `zip` asks of its items.
     for (i, most) in largest.iter().enumerate() {
         numbers[i] = number_of(words.next()?, *most)?;
     }

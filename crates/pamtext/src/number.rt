@@ -8,6 +8,7 @@ pub(crate) fn number_of(word: &str, largest: u32) -> Option<u32>
     if word.starts_with('+') {
         return None;
     }
+    // A single digit may be a zero.
     if word.len() > 1 && word.starts_with('0') {
         return None;
     }
