@@ -7,7 +7,7 @@ use journal::{Entry, FormatFault, decode};
 
 /// The bytes of the records that are left. Nothing is left behind a fault.
 #[derive(Drop)]
-pub(crate) struct Entries<'a>(pub(crate) &'a [u8]);
+pub struct Entries<'a>(pub &'a [u8]);
 
 impl<'a> Iterator for Entries<'a> {
     type Item = Result<Entry, FormatFault>;

@@ -9,11 +9,12 @@ mod runs;
 mod steps;
 mod weights;
 
+pub use entries::Entries;
 pub use fault::{JournalFault, StepFault};
-pub use lines::{line, numbered};
+pub use lines::{line, numbered, put_line};
 pub use runs::{one_printout, run, run_with};
-pub use steps::step;
-pub use weights::Weighed;
+pub use steps::{changed, step};
+pub use weights::{Weighed, weigh};
 
 #[cfg(test)]
 mod tests;

@@ -36,7 +36,7 @@ pub fn line(record: u32, answer: Result<Report, JournalFault>) -> Line
 }
 
 /// Writes the line of a record after those before it.
-pub(crate) fn put_line(
+pub fn put_line(
     out: &mut Vec<u8>,
     record: u32,
     answer: Result<Report, JournalFault>,

@@ -13,7 +13,7 @@ use reading::HalfReading;
 use shape::{Band, Disc};
 
 /// What is reported of a call that changes the map.
-fn changed(reply: Result<u16, MapFault>) -> Result<Report, StepFault>
+pub fn changed(reply: Result<u16, MapFault>) -> Result<Report, StepFault>
     ensures value { result ≡ of_map reply }
 {
     let live = reply?;

@@ -8,7 +8,7 @@ use tally::{Pair, Span, Sum};
 pub type Weighed = Pair<Sum, Span>;
 
 /// The tally of one weight at one time.
-pub(crate) fn weigh(weight: u32, time: u32) -> Weighed
+pub fn weigh(weight: u32, time: u32) -> Weighed
     ensures value { result ≡ weighed weight time }
 {
     Pair {
