@@ -11,7 +11,8 @@ use shape::{Disc, Shape};
 use tables::Tallied;
 use tally::Tally;
 
-/// What two maps answer to the same shape: to the first question each its tally, to the second each its height.
+/// What two maps answer to the same shape, and their heights. No struct of a tally with its height, since a height is no
+/// answer to a shape.
 #[derive(Clone, Copy)]
 pub struct Compared<K> {
     pub first: Tallied<K>,

@@ -11,7 +11,8 @@ const LARGEST16: u32 = 65535;
 /// The largest number of 32 bits: all other fields.
 const LARGEST32: u32 = 4294967295;
 
-/// The record that the fields after the letter A make.
+/// The record that the fields after the letter A make. Crate journal has calls of the same names, which read the fields from
+/// bytes and not from words: the two share no step.
 fn enter(fields: &str) -> Option<Entry>
     ensures value { Makes 65 fields.now result }
 {

@@ -16,7 +16,8 @@ fn sample_in(line: &str) -> Option<Sample> {
     words.next().is_none().then_some(sample)
 }
 
-/// Whether a line has nothing to read: it is empty, or a remark.
+/// Whether a line has nothing to read: it is empty, or a remark. No twin of the call in `pamtext`: white space is that of any
+/// text here, and that of ASCII there.
 fn passed_over(line: &str) -> bool {
     let text = line.trim();
     text.is_empty() || text.starts_with('#')
