@@ -4,28 +4,28 @@ ghost use Rattle.records.specs.Writes.{ranked, swapped, ordered_in};
 ghost use Rattle.records.specs.Promises.{Orders};
 
 use quadtreap::{Rank, UNRANKED};
-use records::{Record, read, write};
+use records::{Record, read, set_children, set_rank};
 
 /// Gives the pair at `s` a rank.
+#[tactic(auto, using(records::proofs::FieldLaws::rank_again))]
 pub fn rank(records: &mut [Record], s: u16, rank: Rank)
     ensures table { records.new ≡ ranked records.old s rank }
 {
-    let rs = read(records, s);
-    let rw = read(records, rs.first);
-    write(records, s, rs.with_rank(rank));
-    write(records, rs.first, rw.with_rank(rank));
+    let first = read(records, s).first;
+    set_rank(records, s, rank);
+    set_rank(records, first, rank);
 }
 
 /// Left and right of the pair at `s` change places, and it takes the rank of the new left.
+#[tactic(auto, using(records::proofs::FieldLaws::children_again))]
 pub fn exchange(records: &mut [Record], s: u16)
     ensures table { records.new ≡ swapped records.old s }
 {
     let rs = read(records, s);
     let rw = read(records, rs.first);
     let rb = read(records, rw.second);
-    let over = rw.with_rank(rb.rank).with_second(rw.first);
-    write(records, s, rs.with_rank(rb.rank));
-    write(records, rs.first, over.with_first(rw.second));
+    rank(records, s, rb.rank);
+    set_children(records, rs.first, rw.second, rw.first);
 }
 
 /// Puts left and right of the pair at `s` in the order of their ranks, where it has no inner box, and ranks it.

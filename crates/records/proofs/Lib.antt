@@ -1,6 +1,7 @@
 pub mod BoxNumberLaws
 pub mod FrameLaws
 pub mod WriteLaws
+pub mod FieldLaws
 pub mod PromoteLaws
 pub mod PairLaws
 pub mod SettleLaws

@@ -1,10 +1,10 @@
 //! One entry of a table: read, written, or a record linked to another child.
 ghost use Rattle.std.specs.Prelude.{◌≡◌, slice_index_or, slice_set};
-ghost use Rattle.records.specs.Writes.{at, relinked};
+ghost use Rattle.records.specs.Writes.{at, with_rank, with_first, with_second, relinked};
 
 use crate::kind::Kind;
 use crate::record::{BoxNumbers, Record};
-use quadtreap::UNRANKED;
+use quadtreap::{Rank, UNRANKED};
 
 /// A record of zeros and no inner box, for tables that hold nothing yet.
 pub const BLANK: Record = Record {
@@ -39,6 +39,28 @@ pub fn write<T: Copy>(entries: &mut [T], place: u16, value: T)
     let place = usize::from(place);
     if place < entries.len() {
         entries[place] = value;
+    }
+}
+
+/// Gives the record at a place, if there is one, another rank. Nothing else of it is read or written, where a record written
+/// whole would be built anew from its parts.
+pub fn set_rank(records: &mut [Record], place: u16, rank: Rank)
+    ensures table { records.new ≡ slice_set records.old place (with_rank (at records.old place) rank) }
+{
+    let place = usize::from(place);
+    if place < records.len() {
+        records[place].rank = rank;
+    }
+}
+
+/// Gives the record at a place, if there is one, two other children. Nothing else of it is read or written.
+pub fn set_children(records: &mut [Record], place: u16, first: u16, second: u16)
+    ensures table { records.new ≡ slice_set records.old place (with_second (with_first (at records.old place) first) second) }
+{
+    let place = usize::from(place);
+    if place < records.len() {
+        records[place].first = first;
+        records[place].second = second;
     }
 }
 

@@ -1,7 +1,9 @@
--- Intervals that overlap or lie within another, and so rectangles that meet or are held.
-use Rattle.std.proofs.Common.{rules, ◌≡◌, ℕ, ◌^◌, ◌<◌, ◌≤◌, max, Bool, true, not, ◌&&◌, Decides, ap, arith}
-use Rattle.std.proofs.lemmas.Bool.{and_parts, and_from}
+-- Intervals that overlap, places between ends, and so rectangles that meet or are held.
+use Rattle.std.proofs.Common.{rules, ◌≡◌, ℕ, ◌^◌, ◌<◌, ◌≤◌, max, Bool, true, not, ◌&&◌, leb, Decides, ap, arith}
+use Rattle.std.proofs.lemmas.Bool.{and_parts, and_from, leb-true, le-leb}
 use Rattle.std.proofs.lemmas.Bool.Decides.{same_from_decides}
+use Rattle.place.specs.Boxes.{between}
+use Rattle.place.proofs.SideLaws.{between_parts, parts_between}
 use Rattle.place.specs.Values.{in_interval, overlap, inside, Widened, in_rectangle}
 use Rattle.place.specs.declared.interval.Interval.{Interval}
 use Rattle.place.specs.declared.rectangle.Rectangle.{Rectangle}
@@ -9,13 +11,6 @@ use Rattle.crossing.specs.Regions.{meets, misses, held, Found}
 use Rattle.shape.specs.Shapes.{band_outer}
 use Rattle.shape.specs.declared.band.Band.{Band}
 use Rattle.crossing.proofs.RegionLaws.{found, meets_found, held_means}
-
--- the ends of an interval are in it
-lowest_in : (i : Interval) → in_interval i i.lowest ≡ true
-lowest_in i = search (rules, i.ends)
-
-highest_in : (i : Interval) → in_interval i i.highest ≡ true
-highest_in i = search (rules, i.ends)
 
 -- no count of an interval is above its highest
 at_most : (i : Interval) (c : ℕ) → in_interval i c ≡ true → c ≤ i.highest
@@ -31,15 +26,33 @@ second_of_both i j e = search (rules, j.ends)
 shared : (i j : Interval) (c : ℕ) → in_interval i c ≡ true → in_interval j c ≡ true → overlap i j ≡ true
 shared i j c d e = search rules
 
--- an interval is inside another exactly where its two ends are
-ends_inside : (i j : Interval) → in_interval j i.lowest ≡ true → in_interval j i.highest ≡ true → inside i j ≡ true
-ends_inside i j d e = search rules
+-- All places between the first four ends are between the others exactly where the ends are. Between the others there may be no place.
+module _ (lm hm lr hr bm tm br tr : ℕ) (motors : lm ≤ hm) (roots : lr ≤ hr) (motor-fits : hm < 2 ^ 16) (root-fits : hr < 2 ^ 16) where
+  abbrev ends_between : Bool
+  ends_between = (leb bm lm && leb hm tm) && (leb br lr && leb hr tr)
 
-inside_has : (i j : Interval) (c : ℕ) → inside i j ≡ true → in_interval i c ≡ true → in_interval j c ≡ true
-inside_has i j c d e = search rules
+  pub held_between : held (between lm hm lr hr) (between bm tm br tr) ≡ ends_between
+  held_between =
+      same_from_decides (held (between lm hm lr hr) (between bm tm br tr)) ends_between (held_means (between lm hm lr hr) (between bm tm br tr)) decides
+    where
+      decides : Decides ends_between ((m r : ℕ) → m < 2 ^ 16 → r < 2 ^ 16 → between lm hm lr hr m r ≡ true → between bm tm br tr m r ≡ true)
+      decides = (
+        (λ e m r _ _ b.
+            let q = and_parts (leb bm lm && leb hm tm) (leb br lr && leb hr tr) e in
+            let u = and_parts (leb bm lm) (leb hm tm) q.0 in
+            let v = and_parts (leb br lr) (leb hr tr) q.1 in
+            let p = between_parts lm hm lr hr m r b in
+            parts_between bm tm br tr m r (omega (arith, leb-true bm lm u.0, leb-true hm tm u.1, leb-true br lr v.0, leb-true hr tr v.1))),
+        (λ all.
+            let low = between_parts bm tm br tr lm lr (all lm lr (omega arith) (omega arith) (parts_between lm hm lr hr lm lr (omega arith))) in
+            let high = between_parts bm tm br tr hm hr (all hm hr motor-fits root-fits (parts_between lm hm lr hr hm hr (omega arith))) in
+            and_from (leb bm lm && leb hm tm) (leb br lr && leb hr tr)
+            (and_from (leb bm lm) (leb hm tm) (le-leb bm lm low.0) (le-leb hm tm high.1))
+            (and_from (leb br lr) (leb hr tr) (le-leb br lr low.2) (le-leb hr tr high.3))),
+      )
 
 -- Two rectangles.
-module _ (a b : Rectangle) (motor-fits : a.motors.highest < 2 ^ 16) (root-fits : a.roots.highest < 2 ^ 16) where
+module _ (a b : Rectangle) where
   abbrev overlaps : Bool
   overlaps = overlap a.motors b.motors && overlap a.roots b.roots
 
@@ -73,19 +86,9 @@ module _ (a b : Rectangle) (motor-fits : a.motors.highest < 2 ^ 16) (root-fits :
 
   -- all of a is in b exactly where both intervals lie within
   pub held_by : held (in_rectangle a) (in_rectangle b) ≡ within
-  held_by = same_from_decides (held (in_rectangle a) (in_rectangle b)) within (held_means (in_rectangle a) (in_rectangle b)) decides
-    where
-      decides : Decides within ((m r : ℕ) → m < 2 ^ 16 → r < 2 ^ 16 → in_rectangle a m r ≡ true → in_rectangle b m r ≡ true)
-      decides = (
-        (λ e m r _ _ h.
-            let p = and_parts (inside a.motors b.motors) (inside a.roots b.roots) e in
-            let q = and_parts (in_interval a.motors m) (in_interval a.roots r) h in
-            and_from _ _ (inside_has a.motors b.motors m p.0 q.0) (inside_has a.roots b.roots r p.1 q.1)),
-        (λ all.
-            let low = and_parts (in_interval b.motors a.motors.lowest) (in_interval b.roots a.roots.lowest) (all a.motors.lowest a.roots.lowest (omega (arith, a.motors.ends)) (omega (arith, a.roots.ends)) (and_from _ _ (lowest_in a.motors) (lowest_in a.roots))) in
-            let high = and_parts (in_interval b.motors a.motors.highest) (in_interval b.roots a.roots.highest) (all a.motors.highest a.roots.highest motor-fits root-fits (and_from _ _ (highest_in a.motors) (highest_in a.roots))) in
-            and_from _ _ (ends_inside a.motors b.motors low.0 high.0) (ends_inside a.roots b.roots low.1 high.1)),
-      )
+  held_by =
+      held_between a.motors.lowest a.motors.highest a.roots.lowest a.roots.highest b.motors.lowest b.motors.highest b.roots.lowest b.roots.highest
+      a.motors.ends a.roots.ends a.motors.fits a.roots.fits
 
 -- a rectangle widened by a band's margin has the places of the band's outer set
 pub outer_is : (b : Band) (w : Rectangle) → Widened b.rectangle.motors b.margin w.motors × Widened b.rectangle.roots b.margin w.roots → in_rectangle w ≡ band_outer b
