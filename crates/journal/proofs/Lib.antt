@@ -2,3 +2,4 @@
 pub mod PaddedLaws
 pub mod Fronts
 pub mod Letters
+pub mod Digits

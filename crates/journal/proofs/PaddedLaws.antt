@@ -1,6 +1,6 @@
 -- Bytes and the zeros after them.
 use Rattle.std.proofs.Common.{◌≡◌, ℕ, ◌+◌, ◌-◌, ◌≤◌, List, ◌++◌, length, take, drop, replicate, sym, refl, ap, ◌∙◌, append_assoc, arith, length-append}
-use Rattle.std.proofs.lemmas.List.{take_at, drop_at, drop-replicate, length-replicate}
+use Rattle.std.proofs.lemmas.List.{take_at, drop_at, drop-drop, take-append-drop, drop-replicate, length-replicate}
 use Rattle.std.proofs.lemmas.Slice.{take-put_mid}
 use borrow.Rule.Slice.PartMut.{put_mid}
 use Rattle.journal.specs.Padded.{Holds}
@@ -33,6 +33,15 @@ module _ {n len k : ℕ} {bs : List ℕ} (more : List ℕ) (room : len + length 
         count = count;
         text = ap (λ x. take len bs ++ (more ++ x)) left ∙ sym (append_assoc (take len bs) more _);
       }
+
+-- An array whose bytes are as they were up to a place, then are others, and then are as they were again.
+pub written_over : (len start end : ℕ) (bs cs more : List ℕ) → start ≡ len → end ≡ len + length more → drop start cs ≡ more ++ drop end bs → take start cs ≡ take start bs → cs ≡ put_mid len (length more) bs more
+written_over len start end bs cs more s e behind before =
+    sym (take-append-drop start cs)
+    ∙ ap (λ x. x ++ drop start cs) before
+    ∙ ap (λ x. take start bs ++ x) behind
+    ∙ ap (λ m. take m bs ++ (more ++ drop end bs)) s
+    ∙ ap (λ x. take len bs ++ (more ++ x)) (ap (λ m. drop m bs) e ∙ sym (drop-drop (length more) len bs))
 
 -- A piece and what is written behind it are written one after the other.
 pub then_more : (u : List ℕ) {v w x a : List ℕ} (b : List ℕ) → v ≡ u ++ x → x ≡ a → w ≡ v ++ b → w ≡ u ++ (a ++ b)

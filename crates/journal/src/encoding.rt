@@ -6,6 +6,7 @@ ghost use Rattle.journal.specs.Written.{text};
 
 use crate::entry::Entry;
 use crate::padded::Padded;
+use crate::writing::Writing;
 
 /// The bytes of one record, zeros after them, and how many of them belong to the record.
 pub type Encoded = Padded<21>;
@@ -25,9 +26,9 @@ fn letter_of(entry: Entry) -> u8
 }
 
 /// Writes the fields of a record. It is one arm for each kind of record, and splitting the arms would make it no plainer.
-fn put_fields(encoded: &mut Encoded, entry: Entry)
-    requires { encoded.old.len + 20 ≤ 21 }
-    ensures value { text encoded.new ≡ text encoded.old ++ fields entry }
+fn put_fields(encoded: &mut Writing<21>, entry: Entry)
+    requires { encoded.old.padded.len + 20 ≤ 21 }
+    ensures value { text encoded.new.padded ≡ text encoded.old.padded ++ fields entry }
 {
     match entry {
         Entry::Enter {
@@ -92,8 +93,8 @@ fn put_fields(encoded: &mut Encoded, entry: Entry)
 pub fn encode(entry: Entry) -> Encoded
     ensures value { Holds 21 result.bytes result.len (spelled entry) }
 {
-    let mut encoded = Encoded::new();
+    let mut encoded = Writing::new();
     encoded.put(&[letter_of(entry)]);
     put_fields(&mut encoded, entry);
-    encoded
+    encoded.done()
 }

@@ -1,6 +1,7 @@
 //! The bytes of a journal and the lines that are printed of it.
 #![tactic(auto)]
 
+mod decimal;
 mod decoding;
 mod encoding;
 mod entry;
@@ -10,6 +11,7 @@ mod headings;
 mod lines;
 mod padded;
 mod report;
+mod writing;
 
 pub use decoding::{decode, decodes_back, one_decoding};
 pub use encoding::{Encoded, encode};

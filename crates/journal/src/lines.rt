@@ -6,25 +6,26 @@ ghost use Rattle.journal.specs.Written.{text};
 
 use crate::padded::Padded;
 use crate::report::Report;
+use crate::writing::Writing;
 
 /// The bytes of one line, zeros after them, and how many of them belong to the line.
 pub type Line = Padded<96>;
 
 /// Writes a blank and a number.
-fn put_field(line: &mut Line, n: u32)
-    requires { line.old.len + 11 ≤ 96 }
-    ensures value { text line.new ≡ text line.old ++ (blank ++ decimal n) }
-    ensures place { line.new.len ≤ line.old.len + 11 }
+fn put_field(line: &mut Writing<96>, n: u32)
+    requires { line.old.padded.len + 11 ≤ 96 }
+    ensures value { text line.new.padded ≡ text line.old.padded ++ (blank ++ decimal n) }
+    ensures place { line.new.padded.len ≤ line.old.padded.len + 11 }
 {
     line.put(b" ");
     line.put_number(n);
 }
 
 /// Writes the first and the last time, or a dash for each.
-fn put_times(line: &mut Line, times: Option<(u32, u32)>)
-    requires { line.old.len + 21 ≤ 96 }
-    ensures value { text line.new ≡ text line.old ++ times_text times }
-    ensures place { line.new.len ≤ line.old.len + 21 }
+fn put_times(line: &mut Writing<96>, times: Option<(u32, u32)>)
+    requires { line.old.padded.len + 21 ≤ 96 }
+    ensures value { text line.new.padded ≡ text line.old.padded ++ times_text times }
+    ensures place { line.new.padded.len ≤ line.old.padded.len + 21 }
 {
     match times {
         Some((first, last)) => {
@@ -36,10 +37,16 @@ fn put_times(line: &mut Line, times: Option<(u32, u32)>)
 }
 
 /// Writes what a walk found.
-fn put_tally(line: &mut Line, sum: u64, times: Option<(u32, u32)>, expanded: u32, height: u16)
-    requires { line.old.len + 70 ≤ 96 }
-    ensures value { text line.new ≡ text line.old ++ told (Report.Tally sum times expanded height) }
-    ensures place { line.new.len ≤ line.old.len + 70 }
+fn put_tally(
+    line: &mut Writing<96>,
+    sum: u64,
+    times: Option<(u32, u32)>,
+    expanded: u32,
+    height: u16,
+)
+    requires { line.old.padded.len + 70 ≤ 96 }
+    ensures value { text line.new.padded ≡ text line.old.padded ++ told (Report.Tally sum times expanded height) }
+    ensures place { line.new.padded.len ≤ line.old.padded.len + 70 }
 {
     line.put(b"tally ");
     line.put_number(sum);
@@ -50,10 +57,10 @@ fn put_tally(line: &mut Line, sum: u64, times: Option<(u32, u32)>, expanded: u32
 }
 
 /// Writes a word and the one number after it.
-fn put_told(line: &mut Line, report: Report)
-    requires { line.old.len + 70 ≤ 96 }
-    ensures value { text line.new ≡ text line.old ++ told report }
-    ensures place { line.new.len ≤ line.old.len + 70 }
+fn put_told(line: &mut Writing<96>, report: Report)
+    requires { line.old.padded.len + 70 ≤ 96 }
+    ensures value { text line.new.padded ≡ text line.old.padded ++ told report }
+    ensures place { line.new.padded.len ≤ line.old.padded.len + 70 }
 {
     match report {
         Report::Ok { live } => {
@@ -85,10 +92,10 @@ fn put_told(line: &mut Line, report: Report)
 pub fn line_of(number: u32, report: Report) -> Line
     ensures value { Holds 96 result.bytes result.len (printed number report) }
 {
-    let mut line = Line::new();
+    let mut line = Writing::new();
     line.put_number(number);
     line.put(b" ");
     put_told(&mut line, report);
     line.put(b"\n");
-    line
+    line.done()
 }

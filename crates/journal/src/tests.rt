@@ -201,6 +201,15 @@ fn the_longest_line_has_77_bytes(rt: HostRuntime) {
 }
 
 #[test]
+fn whoever_has_a_line_may_change_it(rt: HostRuntime) {
+    let mut line = line_of(7, Report::Height { height: 3 });
+    line.len = line.len.saturating_sub(1);
+    assert!(rt; line.as_bytes() == b"7 height 3".as_slice());
+    line.len = 97;
+    assert_eq!(rt; line.as_bytes().len(), 96);
+}
+
+#[test]
 fn faults_are_numbered_from_10_to_14(rt: HostRuntime) {
     assert_eq!(rt; FormatFault::TooLong.number(), 10);
     assert_eq!(rt; FormatFault::WrongMark.number(), 11);

@@ -12,8 +12,13 @@ use sample::{Sample, sample_of, survey};
 /// The sample of a line of four words, if it is one.
 fn sample_in(line: &str) -> Option<Sample> {
     let mut words = line.split_whitespace();
-    let sample = sample_of(words.next()?, words.next()?, words.next()?, words.next()?)?;
-    words.next().is_none().then_some(sample)
+    let (motor, motor_time) = (words.next()?, words.next()?);
+    let (root, root_time) = (words.next()?, words.next()?);
+    // A fifth word is looked for before any is read as a number, so that a line of many words costs no more than finding them.
+    if words.next().is_some() {
+        return None;
+    }
+    sample_of(motor, motor_time, root, root_time)
 }
 
 /// Whether a line has nothing to read: it is empty, or a remark. No twin of the call in `pamtext`: white space is that of any

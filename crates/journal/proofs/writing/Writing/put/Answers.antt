@@ -1,7 +1,7 @@
 -- The bytes are written over the first zeros.
 use Rattle.std.proofs.Common.{arith}
 use Rattle.journal.proofs.PaddedLaws.{written, held_more}
-use Rattle.journal.proofs.padded.Padded.put.Goals as goal
+use Rattle.journal.proofs.writing.Writing.put.Goals as goal
 
 pub invariant_of-self : goal.invariant_of-self
 invariant_of-self g c = rw c.copy_from_slice.ensures.after record { held = held_more c.args.more.now c.requires (omega arith) c.args.self.now.held }
