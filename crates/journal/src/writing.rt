@@ -1,5 +1,5 @@
 //! Bytes written one after another into an array, with zeros after them. Records and printed lines are both made so.
-ghost use Rattle.std.specs.Prelude.{◌≡◌, ◌+◌, ◌≤◌, [], ◌++◌, length, take, decimal};
+ghost use Rattle.std.specs.Prelude.{◌≡◌, ◌+◌, ◌≤◌, [], ◌++◌, length, take};
 ghost use Rattle.journal.specs.Padded.{Holds};
 ghost use Rattle.journal.specs.Written.{text};
 

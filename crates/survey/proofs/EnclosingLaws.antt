@@ -7,7 +7,7 @@ use Rattle.place.proofs.BoxLaws.{true_holds, within_parts, within_holds, point_w
 use Rattle.survey.specs.Enclosing.{Encloses}
 
 -- a box that contains the box of a code contains that code
-within_point : (C : Box) (c : ℕ) → within (point c) C ≡ true → holds C c ≡ true
+pub within_point : (C : Box) (c : ℕ) → within (point c) C ≡ true → holds C c ≡ true
 within_point C c h = true_holds C c (within_parts (point c) C h).1
 
 -- the box of the first code

@@ -1,6 +1,5 @@
 -- The digits are written over the first zeros.
-use Rattle.std.proofs.Common.{◌≡◌, ◌+◌, arith, length, decimal, refl, sym, ap, ◌∙◌, ◌++◌}
-use borrow.Rule.Slice.PartMut.{put_mid}
+use Rattle.std.proofs.Common.{◌+◌, arith, decimal, refl, ap, ◌∙◌, ◌++◌}
 use Rattle.journal.specs.Written.{text}
 use Rattle.journal.proofs.PaddedLaws.{written, held_more, written_over}
 use Rattle.journal.proofs.writing.Writing.put_number.Goals as goal
