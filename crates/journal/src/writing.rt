@@ -40,7 +40,9 @@ impl<const N: usize> Writing<N> {
     }
 
     /// Writes a number in decimal, without leading zeros: its digits are counted first, and then written where they belong.
-    /// Not by `write!`, which may answer an error that no clause rules out.
+    /// Not by `write!`, which may answer an error that no clause rules out. Inlined, since most numbers of a line are short, and
+    /// a call takes as long as their digits.
+    #[inline(always)]
     pub(crate) fn put_number<D: Decimal>(&mut self, n: D)
         requires { self.old.padded.len + D.MAX_STR_LEN ≤ N }
         ensures value { text self.new.padded ≡ text self.old.padded ++ D.text n }
