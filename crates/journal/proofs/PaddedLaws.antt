@@ -34,7 +34,7 @@ module _ {n len k : ℕ} {bs : List ℕ} (more : List ℕ) (room : len + length 
         text = ap (λ x. take len bs ++ (more ++ x)) left ∙ sym (append_assoc (take len bs) more _);
       }
 
--- An array whose bytes are as they were up to a place, then are others, and then are as they were again.
+-- An array that has the bytes of another up to a place, then more, and then those of the other again, is the other with more written over it there.
 pub written_over : (len start end : ℕ) (bs cs more : List ℕ) → start ≡ len → end ≡ len + length more → drop start cs ≡ more ++ drop end bs → take start cs ≡ take start bs → cs ≡ put_mid len (length more) bs more
 written_over len start end bs cs more s e behind before =
     sym (take-append-drop start cs)

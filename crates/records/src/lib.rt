@@ -10,4 +10,6 @@ mod table;
 pub use kind::Kind;
 pub use places::{FourPlaces, FreePlaces, Sinking};
 pub use record::{BoxNumbers, NONE, Record};
-pub use table::{BLANK, read, read_or, relink, set_children, set_rank, write};
+pub use table::{
+    BLANK, read, read_or, relink, set_children, set_first, set_rank, set_second, write,
+};

@@ -53,6 +53,26 @@ pub fn set_rank(records: &mut [Record], place: u16, rank: Rank)
     }
 }
 
+/// Gives the record at a place, if there is one, another first child. Nothing else of it is read or written.
+pub fn set_first(records: &mut [Record], place: u16, child: u16)
+    ensures table { records.new ≡ slice_set records.old place (with_first (at records.old place) child) }
+{
+    let place = usize::from(place);
+    if place < records.len() {
+        records[place].first = child;
+    }
+}
+
+/// Gives the record at a place, if there is one, another second child. Nothing else of it is read or written.
+pub fn set_second(records: &mut [Record], place: u16, child: u16)
+    ensures table { records.new ≡ slice_set records.old place (with_second (at records.old place) child) }
+{
+    let place = usize::from(place);
+    if place < records.len() {
+        records[place].second = child;
+    }
+}
+
 /// Gives the record at a place, if there is one, two other children. Nothing else of it is read or written.
 pub fn set_children(records: &mut [Record], place: u16, first: u16, second: u16)
     ensures table { records.new ≡ slice_set records.old place (with_second (with_first (at records.old place) first) second) }
@@ -71,10 +91,9 @@ pub fn relink(records: &mut [Record], place: Option<u16>, old: u16, new: u16)
     let Some(place) = place else {
         return;
     };
-    let r = read(records, place);
-    if r.first == old {
-        write(records, place, r.with_first(new));
+    if read(records, place).first == old {
+        set_first(records, place, new);
         return;
     }
-    write(records, place, r.with_second(new));
+    set_second(records, place, new);
 }
